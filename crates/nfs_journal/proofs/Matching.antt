@@ -37,7 +37,7 @@ tail_of x y xs ys e = cc
 turned : {X : Type 0} (x : X) (xs : List X) → reverse (x ∷ xs) ≡ reverse xs ++ x ∷ []
 turned x xs = reverse-append (x ∷ []) xs
 
-pub all_reverse : {X : Type 0} (P : X → Type 0) (xs : List X) → AllByRecursion P xs → AllByRecursion P (reverse xs)
+all_reverse : {X : Type 0} (P : X → Type 0) (xs : List X) → AllByRecursion P xs → AllByRecursion P (reverse xs)
 all_reverse P [] a = tt
 all_reverse P (x ∷ xs) a = subst (AllByRecursion P) (sym (turned x xs)) (all_append P (reverse xs) (x ∷ []) (all_reverse P xs a.1) (a.0, tt))
 
@@ -66,7 +66,7 @@ all_of P Q (x ∷ xs) each a = (each x a.0, all_of P Q xs each a.1)
 abbrev texts : List (List ℕ) → List ℕ
 texts entries = flat_map (fragment true) entries
 
-abbrev pub HasEntry : Done → Type 0
+abbrev HasEntry : Done → Type 0
 HasEntry d = has_entry d ≡ true
 
 pub journal_append : (xs ys : List Done) → journal_text (xs ++ ys) ≡ journal_text ys ++ journal_text xs
@@ -157,7 +157,7 @@ alike_append [] (b ∷ ys) x y e a = absurd e
 alike_append (b ∷ xs) [] x y e a = absurd e
 alike_append (b ∷ xs) (c ∷ ys) x y e a = (e.0, alike_append xs ys x y e.1 a)
 
-pub alike_reverse : (xs ys : List Done) → AllAlike xs ys → AllAlike (reverse xs) (reverse ys)
+alike_reverse : (xs ys : List Done) → AllAlike xs ys → AllAlike (reverse xs) (reverse ys)
 alike_reverse [] [] e = tt
 alike_reverse [] (y ∷ ys) e = absurd e
 alike_reverse (x ∷ xs) [] e = absurd e
@@ -196,7 +196,7 @@ same_entries [] (y ∷ ys) e = absurd e
 same_entries (x ∷ xs) [] e = absurd e
 same_entries (x ∷ xs) (y ∷ ys) e = ap (λ t. t ∷ map entry_of xs) (same_entry x y e.0) ∙ ap (λ l. entry_of y ∷ l) (same_entries xs ys e.1)
 
-pub have_alike : (xs ys : List Done) → AllAlike xs ys → AllByRecursion HasEntry xs → AllByRecursion IsRerun ys → AllByRecursion HasEntry ys
+have_alike : (xs ys : List Done) → AllAlike xs ys → AllByRecursion HasEntry xs → AllByRecursion IsRerun ys → AllByRecursion HasEntry ys
 have_alike [] [] e h r = tt
 have_alike [] (y ∷ ys) e h r = absurd e
 have_alike (x ∷ xs) [] e h r = absurd e

@@ -82,13 +82,13 @@ module _ (setups : ℕ → Setup) (now : Setup) (d : Done) (before : List Done) 
       by false = refl
 
   -- its own is the one that was in force
-  pub own_setup : has_entry d ≡ true → noted_setups setups now (d ∷ before) (length (noted before)) ≡ setups (length before)
+  own_setup : has_entry d ≡ true → noted_setups setups now (d ∷ before) (length (noted before)) ≡ setups (length before)
   own_setup e =
       ap (λ b. if b && nat_eq (length (noted before)) (length (noted before)) then setups (length before) else noted_setups setups now before (length (noted before))) e
       ∙ ap (λ t. if t then setups (length before) else noted_setups setups now before (length (noted before))) (eq-eqb (length (noted before)) (length (noted before)) refl)
 
 -- after all of them it is the one that is in force now
-pub last_setup : (setups : ℕ → Setup) (now : Setup) (done : List Done) (n : ℕ) → length (noted done) ≤ n → noted_setups setups now done n ≡ now
+last_setup : (setups : ℕ → Setup) (now : Setup) (done : List Done) (n : ℕ) → length (noted done) ≤ n → noted_setups setups now done n ≡ now
 last_setup setups now [] n later = refl
 last_setup setups now (d ∷ before) n later = by (has_entry d) later (last_setup setups now before n)
   where

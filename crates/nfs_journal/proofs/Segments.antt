@@ -121,7 +121,7 @@ noted_segments setup setups now (segment ∷ before) done s =
 -- ---- what was run again
 
 -- The events were run again from the entries of the segments, each under the exports of its segment; this is left at the end.
-abbrev pub AreCut : Setup → (ℕ → Setup) → List Segment → List ℕ → List Done → Type 0
+abbrev AreCut : Setup → (ℕ → Setup) → List Segment → List ℕ → List Done → Type 0
 AreCut setup setups [] rest done = (done ≡ []) × (rest ≡ [])
 AreCut setup setups (segment ∷ before) rest done = (own : List Done) × (earlier : List Done) × (done ≡ own ++ earlier) × AreRecords segment.bytes (map entry_of (reverse own)) rest
     × ((n : ℕ) → length earlier ≤ n → n < length done → setups n ≡ exporting segment.exports setup) × AreCut setup setups before [] earlier

@@ -33,7 +33,7 @@ without_last n (segment ∷ before) = segment_of segment.exports (take (length s
 abbrev pub IsFront : List Segment → List Segment → Type 0
 IsFront found journal = (newer : List Segment) × (older : List Segment) × (n : ℕ) × (journal ≡ newer ++ older) × (found ≡ without_last n older)
 
--- The journal has the entries of these events, the newest first. Each was judged by the exports of its segment; the setup is else this.
+-- The journal has the entries of these events, the newest first: each was judged by the exports of its segment, in a setup that is else this one.
 abbrev pub AreSegments : Setup → (ℕ → Setup) → List Segment → List Done → Type 0
 AreSegments setup setups [] done = done ≡ []
 AreSegments setup setups (segment ∷ before) done = (own : List Done) × (earlier : List Done) × (done ≡ own ++ earlier) × (segment.bytes ≡ journal_text own)
