@@ -44,6 +44,12 @@ module _ {L : Type 0} (outgoing incoming : L → Option (List ℕ)) where
   pub begins_where : (P : List Change → Type 0) (server : Held) (old mid : Slab (Member L)) (joined now : ℕ) (w : Written) (new : Stage L) → mid ≡ old → now ≡ joined → Goes outgoing incoming P (stage server mid now w) new → Goes outgoing incoming P (stage server old joined w) new
   begins_where P server old mid joined now w new members count g = subst (λ n. Goes outgoing incoming P (stage server old n w) new) count (subst (λ m. Goes outgoing incoming P (stage server m now w) new) members g)
 
+  -- the same where what is known of the changes is so of where they begin
+  pub begins_by : (P : Stage L → List Change → Type 0) (server : Held) (old mid : Slab (Member L)) (joined now : ℕ) (w : Written) (new : Stage L) → mid ≡ old → now ≡ joined → Goes outgoing incoming (P (stage server mid now w)) (stage server mid now w) new
+      → Goes outgoing incoming (P (stage server old joined w)) (stage server old joined w) new
+  begins_by P server old mid joined now w new members count g =
+      subst (λ n. Goes outgoing incoming (P (stage server old n w)) (stage server old n w) new) count (subst (λ m. Goes outgoing incoming (P (stage server m now w)) (stage server m now w) new) members g)
+
   pub goes_none : (a : Option (List Report)) (old : Stage L) → Goes outgoing incoming (λ changes. WithoutTurns a changes a) old old
   goes_none a old = record { changes = []; are_changes = refl; shared_stays = refl; such = (refl, accounts_none a) }
 

@@ -6,6 +6,7 @@ pub mod Releasing
 pub mod Staying
 pub mod Watched
 pub mod Changing
+pub mod Beside
 pub mod Turning
 pub mod Rounding
 pub mod Hearing

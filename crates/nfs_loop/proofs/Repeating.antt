@@ -10,7 +10,7 @@ use Rattle.nfs_exports.specs.declared.export_table.Export.{Export}
 use Rattle.nfs_loop.specs.Attending.{MayReload}
 use Rattle.nfs_loop.specs.Journals.{Journal, IsSettled, JournalGoes, SettlesBy, noted_by, settles_of}
 use Rattle.nfs_loop.specs.Reports.{Report, since, Accounts, ComeBy}
-use Rattle.nfs_loop.specs.Stages.{Stage, state, seat_of, seats, turned, AllOthersStay, AsksAll, Goes, HeardInTurns, Notes, Schedule, SilentLeave, WaitAgain, WithoutTurns, MayBeFull, IsRound, most_asked, AreRounds, Rounds, changes_of, reload_of}
+use Rattle.nfs_loop.specs.Stages.{Stage, state, seat_of, seats, turned, AllOthersStay, AreTurnsBeside, AsksAll, Goes, HeardInTurns, Notes, Schedule, SilentLeave, WaitAgain, WithoutTurns, MayBeFull, IsRound, most_asked, AreRounds, Rounds, changes_of, reload_of}
 use Rattle.nfs_loop.proofs.Reporting.{accounts_then, come_same, come_then, first_then}
 use Rattle.nfs_loop.proofs.Changing.{both_change, changes_then, turned_then}
 use Rattle.nfs_loop.proofs.Lengthening.{notes_account}
@@ -107,7 +107,7 @@ module _ {L : Type 0} (outgoing incoming : L → Option (List ℕ)) (reports : L
       → Notes old.members from.watches from.queue ready_queue a between → AsksAll most_asked a between → AllStay old.members from.watches gathered.members held → AllBegin old.members between before gathered.members held → ReleasesBy gathered.members from.full before after held left ready_queue first
       → MayBeFull from.full old.written → gathered.written ≡ old.written
       → Goes outgoing incoming (λ changes. WithoutTurns between changes before) old gathered
-      → Goes outgoing incoming (λ changes. (turned changes ≡ first) × Accounts after changes c × JournalGoes from.journal (noted_by changes) journal_turned) gathered turned_at → AllOthersStay first (seats gathered.members) (seats turned_at.members)
+      → Goes outgoing incoming (λ changes. (turned changes ≡ first) × Accounts after changes c × JournalGoes from.journal (noted_by changes) journal_turned × AreTurnsBeside outgoing incoming journal_turned changes gathered turned_at) gathered turned_at → AllOthersStay first (seats gathered.members) (seats turned_at.members)
       → HeardInTurns incoming reports after c first to.queue left to.watches (seats turned_at.members)
       → Goes outgoing incoming (λ changes. WithoutTurns c changes d) turned_at ended
       → MayReload ended.server reloaded.server → reloaded ≡ record ended { server = reloaded.server }
@@ -158,6 +158,7 @@ module _ {L : Type 0} (outgoing incoming : L → Option (List ℕ)) (reports : L
           turning_accounts = g.such.1;
           journal_turned = journal_turned;
           journal_in_turns = g.such.2;
+          turning_beside = g.such.3;
           others_stay = others;
           some_heard = heard;
           serving = serving.changes;

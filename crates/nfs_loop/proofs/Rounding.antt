@@ -3,16 +3,17 @@ use Rattle.std.proofs.Common.{◌≡◌, ◌≢◌, ◌⊎◌, ℕ, ◌-◌, ◌
 use Rattle.std.proofs.lemmas.Bool.{eqb-false}
 use Rattle.nfs_queue.specs.Queues.{is_waiting, AreApart}
 use Rattle.nfs_queue.proofs.Queueing.{apart_at, or_both, or_left, or_right}
-use Rattle.nfs_loop.specs.Journals.{Journal, JournalGoes, SettlesBy, noted_by, settles_of}
+use Rattle.nfs_loop.specs.Journals.{Journal, AreBeside, JournalGoes, LeavesRoom, SettlesBy, noted_by, settles_of}
 use Rattle.nfs_loop.specs.Reports.{Report, Accounts, ComeBy}
 use Rattle.nfs_loop.specs.declared.watches.Hold.{Hold}
 use Rattle.nfs_loop.specs.declared.watches.Watch.{Watch}
 use Rattle.nfs_loop.specs.Watching.{FirstMayBeHeld, hold_at}
-use Rattle.nfs_loop.specs.Stages.{Stage, state, turned, first_of, AllOthersStay, HeardInTurns, IsAgain, InRound, OthersStay, Sleeps, TurnsFirst, WaitAgain, Goes}
+use Rattle.nfs_loop.specs.Stages.{Stage, state, turned, first_of, AllOthersStay, AreTurnsBeside, HeardInTurns, IsAgain, InRound, OthersStay, Sleeps, TurnsFirst, WaitAgain, Goes}
 use Rattle.nfs_loop.proofs.Hearing.{heard_then, nobody_heard}
 use Rattle.nfs_loop.proofs.Reporting.{accounts_then, accounts_none, more_by}
 use Rattle.nfs_loop.proofs.Staying.{others_not_held}
 use Rattle.nfs_loop.proofs.Changing.{both_change, changes_then, turned_then}
+use Rattle.nfs_loop.proofs.Beside.{beside_on, beside_settled, beside_then}
 use Rattle.nfs_loop.proofs.Settling.{journal_stays, journal_then, noted_before}
 use Rattle.nfs_server.specs.Fits.{Held}
 use Rattle.nfs_xdr.specs.declared.link.Came.{Came}
@@ -99,12 +100,12 @@ module _ {L : Type 0} (incoming : L → Option (List ℕ)) (reports : L → ℕ 
   done reported reported_now watched watches seat first queue (key ∷ rest) again changes f q l w heard = absurd (none_left (length (key ∷ rest)) (sym l) (omega arith))
 
 pub round_starts : {L : Type 0} (outgoing incoming : L → Option (List ℕ)) (reports : L → ℕ → Came → L → Type 0) (reported : Option (List Report)) (watches : List Watch) (seat : ℕ → Option (Seat L)) (journal : Option Journal) (old : Stage L) (queue : List ℕ) (left : ℕ) → left ≡ length queue
-    → Goes outgoing incoming (λ changes. InRound incoming reports reported reported watches watches seat seat queue queue left changes × Accounts reported changes reported × JournalGoes journal (noted_by changes) journal) old old
+    → Goes outgoing incoming (λ changes. InRound incoming reports reported reported watches watches seat seat queue queue left changes × Accounts reported changes reported × JournalGoes journal (noted_by changes) journal × AreTurnsBeside outgoing incoming journal changes old old) old old
 round_starts outgoing incoming reports reported watches seat journal old queue left is = record {
   changes = [];
   are_changes = refl;
   shared_stays = refl;
-  such = (subst (λ n. InRound incoming reports reported reported watches watches seat seat queue queue n []) (sym is) (round_begins incoming reports reported watches seat queue), accounts_none reported, journal_stays journal);
+  such = (subst (λ n. InRound incoming reports reported reported watches watches seat seat queue queue n []) (sym is) (round_begins incoming reports reported watches seat queue), accounts_none reported, journal_stays journal, refl);
 }
 
 -- ---- notes come to last, or none do
@@ -133,9 +134,9 @@ settles_in_round incoming reports reported reported_now watched watches began se
     record { rest = r.rest; again = r.again; first_is = r.first_is; queue_is = r.queue_is; left_is = r.left_is; wait_again = r.wait_again; others_stay = r.others_stay; heard = r.heard }
 
 module _ {L : Type 0} (outgoing incoming : L → Option (List ℕ)) (reports : L → ℕ → Came → L → Type 0) (watched a : List Watch) (began was : ℕ → Option (Seat L)) (first queue : List ℕ) (left : ℕ) (reported reported_now : Option (List Report)) (journal_began journal : Option Journal) (old mid : Stage L)
-    (before : Goes outgoing incoming (λ changes. InRound incoming reports reported reported_now watched a began was first queue left changes × Accounts reported changes reported_now × JournalGoes journal_began (noted_by changes) journal) old mid) where
+    (before : Goes outgoing incoming (λ changes. InRound incoming reports reported reported_now watched a began was first queue left changes × Accounts reported changes reported_now × JournalGoes journal_began (noted_by changes) journal × AreTurnsBeside outgoing incoming journal changes old mid) old mid) where
   pub settled_on : (journal_now : Option Journal) (new : Stage L) → (noted : Option (List ℕ)) × SettlesBy noted mid.server new.server × JournalGoes journal noted journal_now → new ≡ record mid { server = new.server }
-      → Goes outgoing incoming (λ changes. InRound incoming reports reported reported_now watched a began was first queue left changes × Accounts reported changes reported_now × JournalGoes journal_began (noted_by changes) journal_now) old new
+      → Goes outgoing incoming (λ changes. InRound incoming reports reported reported_now watched a began was first queue left changes × Accounts reported changes reported_now × JournalGoes journal_began (noted_by changes) journal_now × AreTurnsBeside outgoing incoming journal_now changes old new) old new
   settled_on journal_now new settle is = record {
     changes = settles_of settle.0 ++ before.changes;
     are_changes = changes_then outgoing incoming old.written.shared before.changes (settles_of settle.0) (state old) (state mid) (state new) before.are_changes (settle_after outgoing incoming mid new old.written.shared settle.0 settle.1 is);
@@ -144,32 +145,37 @@ module _ {L : Type 0} (outgoing incoming : L → Option (List ℕ)) (reports : L
       settles_in_round incoming reports reported reported_now watched a began was first queue left settle.0 before.changes before.such.0,
       settles_account settle.0 before.changes reported reported_now before.such.1,
       journal_then journal_began journal journal_now (noted_by before.changes) settle.0 before.changes refl before.such.2 settle.2,
+      beside_then outgoing incoming old.written.shared journal_now before.changes (settles_of settle.0) (state old) (state mid) (state new)
+          (beside_on outgoing incoming old.written.shared journal journal_now settle.0 before.changes (state old) (state mid) settle.2 before.such.3) (beside_settled outgoing incoming old.written.shared journal_now mid new settle.0 settle.1 is),
     );
   }
 
-  pub round_on : (b : List Watch) (seat : ℕ → Option (Seat L)) (now : List ℕ) (reported_then : Option (List Report)) (new : Stage L) → AreApart first → 0 < left → FirstMayBeHeld queue a b → HeardInTurns incoming reports reported_now reported_then (first_of queue) now a b seat → Goes outgoing incoming (λ changes. TurnsFirst incoming reports b was seat queue changes now × Accounts reported_now changes reported_then × (noted_by changes ≡ None)) mid new
-      → Goes outgoing incoming (λ changes. InRound incoming reports reported reported_then watched b began seat first now (left - 1) changes × Accounts reported changes reported_then × JournalGoes journal_began (noted_by changes) journal) old new
-  round_on b seat now reported_then new apart some held hears turn = record {
+  pub round_on : (b : List Watch) (seat : ℕ → Option (Seat L)) (now : List ℕ) (reported_then : Option (List Report)) (new : Stage L) → AreApart first → 0 < left → FirstMayBeHeld queue a b → HeardInTurns incoming reports reported_now reported_then (first_of queue) now a b seat → LeavesRoom journal mid.server
+      → Goes outgoing incoming (λ changes. TurnsFirst incoming reports b was seat queue changes now × Accounts reported_now changes reported_then × (noted_by changes ≡ None) × (LeavesRoom journal mid.server → AreTurnsBeside outgoing incoming journal changes mid new)) mid new
+      → Goes outgoing incoming (λ changes. InRound incoming reports reported reported_then watched b began seat first now (left - 1) changes × Accounts reported changes reported_then × JournalGoes journal_began (noted_by changes) journal × AreTurnsBeside outgoing incoming journal changes old new) old new
+  round_on b seat now reported_then new apart some held hears room turn = record {
     changes = turn.changes ++ before.changes;
-    are_changes = both_change outgoing incoming (λ changes. InRound incoming reports reported reported_now watched a began was first queue left changes × Accounts reported changes reported_now × JournalGoes journal_began (noted_by changes) journal)
-        (λ changes. TurnsFirst incoming reports b was seat queue changes now × Accounts reported_now changes reported_then × (noted_by changes ≡ None)) old mid new before turn;
+    are_changes = both_change outgoing incoming (λ changes. InRound incoming reports reported reported_now watched a began was first queue left changes × Accounts reported changes reported_now × JournalGoes journal_began (noted_by changes) journal × AreTurnsBeside outgoing incoming journal changes old mid)
+        (λ changes. TurnsFirst incoming reports b was seat queue changes now × Accounts reported_now changes reported_then × (noted_by changes ≡ None) × (LeavesRoom journal mid.server → AreTurnsBeside outgoing incoming journal changes mid new)) old mid new before turn;
     shared_stays = turn.shared_stays ∙ before.shared_stays;
     such = (
       step incoming reports reported reported_now reported_then watched a b began was seat first queue now before.such.0.rest before.such.0.again left before.changes turn.changes apart before.such.0.first_is before.such.0.queue_is before.such.0.left_is before.such.0.wait_again before.such.0.others_stay before.such.0.heard before.such.1 turn.such.1 some held hears turn.such.0,
       accounts_then reported reported_now reported_then before.changes turn.changes before.such.1 turn.such.1,
       subst (λ n. JournalGoes journal_began n journal) (sym (noted_before before.changes turn.changes turn.such.2)) before.such.2,
+      beside_then outgoing incoming old.written.shared journal before.changes turn.changes (state old) (state mid) (state new) before.such.3
+          (subst (λ s. AreBeside outgoing incoming s journal turn.changes (state mid) (state new)) before.shared_stays (turn.such.3 room)),
     );
   }
 
   at_end : left ≡ 0 → (turned before.changes ≡ first) × WaitAgain incoming reports a was first queue × HeardInTurns incoming reports reported reported_now first queue watched a was
   at_end none = done incoming reports reported reported_now watched a was first queue before.such.0.rest before.such.0.again before.changes before.such.0.first_is before.such.0.queue_is (before.such.0.left_is ∙ none) before.such.0.wait_again before.such.0.heard
 
-  pub round_ends : left ≡ 0 → Goes outgoing incoming (λ changes. (turned changes ≡ first) × Accounts reported changes reported_now × JournalGoes journal_began (noted_by changes) journal) old mid
+  pub round_ends : left ≡ 0 → Goes outgoing incoming (λ changes. (turned changes ≡ first) × Accounts reported changes reported_now × JournalGoes journal_began (noted_by changes) journal × AreTurnsBeside outgoing incoming journal changes old mid) old mid
   round_ends none = record {
     changes = before.changes;
     are_changes = before.are_changes;
     shared_stays = before.shared_stays;
-    such = ((at_end none).0, before.such.1, before.such.2);
+    such = ((at_end none).0, before.such.1, before.such.2, before.such.3);
   }
 
   pub all_wait_again : left ≡ 0 → WaitAgain incoming reports a was first queue

@@ -1,8 +1,9 @@
 -- The journal of a service.
-use Rattle.std.specs.Prelude.{◌≡◌, ℕ, Bool, false, List, [], ◌∷◌, ◌++◌, Option, Some, None, option_map}
+use Rattle.std.specs.Prelude.{◌≡◌, ◌≤◌, ℕ, Bool, false, List, [], ◌∷◌, ◌++◌, length, Option, Some, None, option_map}
 use Rattle.nfs_server.specs.Fits.{Held}
 use Rattle.nfs_server.specs.Notes.{to_note}
-use Rattle.nfs_serving.specs.Service.{Change, joins, turns, leaves, passes, reloads, settles}
+use Rattle.nfs_serving.specs.Service.{Change, IsChange, ServiceState, joins, turns, leaves, passes, reloads, settles}
+use Rattle.nfs_serving.specs.Turns.{SendsPending, Standing}
 use Rattle.nfs_xdr.specs.Known.{Grows}
 
 -- a journal: what of it outlives the process, where that is known, and whether it has failed
@@ -44,3 +45,39 @@ abbrev pub JournalGoes : Option Journal → Option (List ℕ) → Option Journal
 JournalGoes None notes new = (notes ≡ None) × (new ≡ None)
 JournalGoes (Some old) notes None = ⊥
 JournalGoes (Some old) notes (Some new) = new.failed ≡ false → (old.failed ≡ false) × Grows old.lasting (to_note notes) new.lasting
+
+-- ---- turns beside a journal
+
+-- where there is a journal that has not failed, no more than 2 MiB are noted, which is half of what there is room for
+abbrev pub LeavesRoom : Option Journal → Held → Type 0
+LeavesRoom None s = Unit {0}
+LeavesRoom (Some journal) s = journal.failed ≡ false → length (to_note s.notes) ≤ 2097152
+
+-- the client of this key has its turn, and nothing goes out in it but what was pending when it began
+pub record IsHeldBack {L : Type 0} (outgoing : L → Option (List ℕ)) (key : ℕ) (old new : ServiceState L) : Type 0 where
+  pub number : ℕ
+  pub was : Standing L
+  pub now : Standing L
+  pub sat : old.seat key ≡ Some (record { number = number; client = was })
+  pub sits : new.seat key ≡ Some (record { number = number; client = now })
+  pub sends : SendsPending outgoing was now
+
+-- it is so where there is a journal, also once notes are lost
+abbrev pub HoldsBack : {L : Type 0} → (L → Option (List ℕ)) → Option Journal → ℕ → ServiceState L → ServiceState L → Type 0
+HoldsBack outgoing None key old new = Unit {0}
+HoldsBack outgoing (Some journal) key old new = IsHeldBack outgoing key old new
+
+-- a turn begins where there is room for what it notes, and holds its replies back
+abbrev pub IsBeside : {L : Type 0} → (L → Option (List ℕ)) → Option Journal → Change → ServiceState L → ServiceState L → Type 0
+IsBeside outgoing journal (turns key moment came) old new = LeavesRoom journal old.server × HoldsBack outgoing journal key old new
+IsBeside outgoing journal (joins key number addr) old new = Unit {0}
+IsBeside outgoing journal (leaves key number calls end) old new = Unit {0}
+IsBeside outgoing journal passes old new = Unit {0}
+IsBeside outgoing journal (reloads exports) old new = Unit {0}
+IsBeside outgoing journal (settles notes) old new = Unit {0}
+
+-- one change after another in which turns are taken so, the newest first
+abbrev pub AreBeside : {L : Type 0} → (L → Option (List ℕ)) → (L → Option (List ℕ)) → Bool → Option Journal → List Change → ServiceState L → ServiceState L → Type 0
+AreBeside outgoing incoming shared journal [] old new = new ≡ old
+AreBeside {L} outgoing incoming shared journal (change ∷ earlier) old new = (between : ServiceState L) × AreBeside outgoing incoming shared journal earlier old between
+    × IsChange outgoing incoming shared change between new × IsBeside outgoing journal change between new

@@ -7,7 +7,7 @@ use Rattle.nfs_exports.specs.declared.addr.Addr.{Addr}
 use Rattle.nfs_attrs.specs.declared.moment.Moment.{Moment}
 use Rattle.nfs_exports.specs.declared.export_table.Export.{Export}
 use Rattle.nfs_lines.specs.Written.{Written}
-use Rattle.nfs_loop.specs.Journals.{Journal, IsSettled, JournalGoes, noted_by, settles_of}
+use Rattle.nfs_loop.specs.Journals.{Journal, AreBeside, IsSettled, JournalGoes, noted_by, settles_of}
 use Rattle.nfs_loop.specs.Peers.{IsAddrOf}
 use Rattle.nfs_loop.specs.Reports.{Report, ready, listener_ready, nothing_ready, came, at, since, IsReported, IsReportedFirst, IsTimeIn, Accounts, ComeBy, KeepExports}
 use Rattle.nfs_loop.specs.declared.member.Member.{Member}
@@ -123,6 +123,10 @@ pub record Goes {L : Type 0} (outgoing incoming : L → Option (List ℕ)) (Such
   pub are_changes : AreChanges outgoing incoming old.written.shared changes (state old) (state new)
   pub shared_stays : new.written.shared ≡ old.written.shared
   pub such : Such changes
+
+-- in these changes turns are taken beside a journal
+abbrev pub AreTurnsBeside : {L : Type 0} → (L → Option (List ℕ)) → (L → Option (List ℕ)) → Option Journal → List Change → Stage L → Stage L → Type 0
+AreTurnsBeside outgoing incoming journal changes old new = AreBeside outgoing incoming old.written.shared journal changes (state old) (state new)
 
 -- In the midst of a round, with so many turns left: those that waited first have had their turns, and then the rest has, which still waits before all others. Who had its turn waits again after the rest, or sleeps. All others sit as they sat when the turns began, and when they were heard of stays.
 pub record InRound {L : Type 0} (incoming : L → Option (List ℕ)) (reports : L → ℕ → Came → L → Type 0) (reported reported_now : Option (List Report)) (watched watches : List Watch) (began seat : ℕ → Option (Seat L)) (first queue : List ℕ) (left : ℕ) (changes : List Change) : Type 0 where
@@ -247,7 +251,7 @@ abbrev pub reload_of : Option (List (List Export)) → List Change
 reload_of None = []
 reload_of (Some exports) = reloads exports ∷ []
 
--- A round: the network is asked what is ready. Those of which something was reported wait after those that waited, unless they get no turn for now; others may have joined since; and after them wait those whose hold is over, by what the clock reported once these had come and before the moment of any turn, and as the log was full or not. Nothing was written up to there. Then each who waits has one turn, in that order, and at the end it waits again, sleeps or is gone. All others stay, and only those that had a turn are held who were not before. When each was heard of stays, but for two: for one that joins, and for one of which something was heard in its turn, it is a time that the clock reported then. At the end of the round, once all turns are over, those that are silent leave, and nobody else does there, by the time that the clock reported then. The changes up to there lead to those who are looked at, and nobody has a turn in the others. At the very end other exports may be put in force, and only there. Where there is a journal, the server has nothing to note when the round begins; what it notes comes to last in the journal between turns, where much of it has come together, and after all else, unless that fails.
+-- A round: the network is asked what is ready. Those of which something was reported wait after those that waited, unless they get no turn for now; others may have joined since; and after them wait those whose hold is over, by what the clock reported once these had come and before the moment of any turn, and as the log was full or not. Nothing was written up to there. Then each who waits has one turn, in that order, and at the end it waits again, sleeps or is gone. All others stay, and only those that had a turn are held who were not before. When each was heard of stays, but for two: for one that joins, and for one of which something was heard in its turn, it is a time that the clock reported then. At the end of the round, once all turns are over, those that are silent leave, and nobody else does there, by the time that the clock reported then. The changes up to there lead to those who are looked at, and nobody has a turn in the others. At the very end other exports may be put in force, and only there. Where there is a journal, the server has nothing to note when the round begins; what it notes comes to last in the journal between turns, so that no turn begins where more than 2 MiB are noted, and after all else, unless that fails; and nothing goes out in a turn but what was pending when it began.
 pub record IsRound {L : Type 0} (outgoing incoming : L → Option (List ℕ)) (reports : L → ℕ → Came → L → Type 0) (changes : List Change) (reported reported_now : Option (List Report)) (from to : Schedule) (old new : Stage L) : Type 0 where
   pub are_changes : AreChanges outgoing incoming old.written.shared changes (state old) (state new)
   pub shared_stays : new.written.shared ≡ old.written.shared
@@ -280,6 +284,7 @@ pub record IsRound {L : Type 0} (outgoing incoming : L → Option (List ℕ)) (r
   pub turning_accounts : Accounts after turning looks_at
   pub journal_turned : Option Journal
   pub journal_in_turns : JournalGoes from.journal (noted_by turning) journal_turned
+  pub turning_beside : AreTurnsBeside outgoing incoming journal_turned turning gathered served
   pub others_stay : AllOthersStay first (seats gathered.members) (seats served.members)
   pub some_heard : HeardInTurns incoming reports after looks_at first to.queue left to.watches (seats served.members)
   pub serving : List Change

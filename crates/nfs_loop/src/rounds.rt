@@ -1,11 +1,12 @@
 //! Whose turn it is.
-ghost use Rattle.std.specs.Prelude.{◌≡◌, ◌↔◌, ℕ, List, Option, None, false, true, is_some};
+ghost use Rattle.std.specs.Prelude.{◌≡◌, ◌↔◌, ◌||◌, ℕ, List, Option, None, false, true, is_some, length, nat_lt};
 ghost use Rattle.slab.specs.Slab.{get};
 ghost use Rattle.nfs_lines.specs.Queued.{is_full};
 ghost use Rattle.nfs_lines.specs.Written.{written};
-ghost use Rattle.nfs_loop.specs.Journals.{JournalGoes, SettlesBy, journal_of, noted_by};
-ghost use Rattle.nfs_loop.specs.Stages.{AllOthersStay, AsksAll, Goes, HeardInTurns, Notes, TurnsFirst, WaitAgain, first_of, most_asked, noted, seats, stage, turned};
+ghost use Rattle.nfs_loop.specs.Journals.{JournalGoes, LeavesRoom, SettlesBy, journal_of, noted_by};
+ghost use Rattle.nfs_loop.specs.Stages.{AllOthersStay, AreTurnsBeside, AsksAll, Goes, HeardInTurns, Notes, TurnsFirst, WaitAgain, first_of, most_asked, noted, seats, stage, turned};
 ghost use Rattle.nfs_loop.specs.Reports.{Accounts};
+ghost use Rattle.nfs_server.specs.Notes.{to_note};
 ghost use Rattle.nfs_loop.specs.Watching.{AreWatched, FirstMayBeHeld, ReleasesBy, ReleasesOne, SomeMayBeHeld, heard_at, hold_at};
 
 use crate::housekeeping::Waiting;
@@ -134,7 +135,10 @@ impl<L: Link + Drop> Service<L> {
         requires watched { AreWatched self.old.clients.0 self.old.housekeeping.watches }
         ensures goes { Goes L.outgoing L.incoming
             (λ changes. (turned changes ≡ self.old.clients.1.0) × Accounts (N.reported net.old) changes (N.reported net.new)
-            × JournalGoes (journal_of J.lasting J.failed journal.old) (noted_by changes) (journal_of J.lasting J.failed journal.new))
+            × JournalGoes (journal_of J.lasting J.failed journal.old) (noted_by changes) (journal_of J.lasting J.failed journal.new)
+            × AreTurnsBeside L.outgoing L.incoming (journal_of J.lasting J.failed journal.new) changes
+            (stage server.old self.old.clients.0 self.old.joined (written A.taken C.taken lines.old))
+            (stage server.new self.new.clients.0 self.new.joined (written A.taken C.taken lines.new)))
             (stage server.old self.old.clients.0 self.old.joined (written A.taken C.taken lines.old))
             (stage server.new self.new.clients.0 self.new.joined (written A.taken C.taken lines.new)) }
         ensures holds { SomeMayBeHeld self.old.clients.1.0 self.old.housekeeping.watches self.new.housekeeping.watches }
@@ -168,7 +172,10 @@ impl<L: Link + Drop> Service<L> {
         requires watched { AreWatched self.old.clients.0 self.old.housekeeping.watches }
         ensures goes { Goes L.outgoing L.incoming
             (λ changes. TurnsFirst L.incoming L.reports self.new.housekeeping.watches (seats self.old.clients.0) (seats self.new.clients.0)
-            self.old.clients.1.0 changes self.new.clients.1.0 × Accounts (N.reported net.old) changes (N.reported net.new) × (noted_by changes ≡ None))
+            self.old.clients.1.0 changes self.new.clients.1.0 × Accounts (N.reported net.old) changes (N.reported net.new) × (noted_by changes ≡ None)
+            × (LeavesRoom (journal_of J.lasting J.failed journal.now) server.old → AreTurnsBeside L.outgoing L.incoming (journal_of J.lasting J.failed journal.now) changes
+            (stage server.old self.old.clients.0 self.old.joined (written A.taken C.taken lines.old))
+            (stage server.new self.new.clients.0 self.new.joined (written A.taken C.taken lines.new))))
             (stage server.old self.old.clients.0 self.old.joined (written A.taken C.taken lines.old))
             (stage server.new self.new.clients.0 self.new.joined (written A.taken C.taken lines.new)) }
         ensures holds { FirstMayBeHeld self.old.clients.1.0 self.old.housekeeping.watches self.new.housekeeping.watches }
@@ -213,16 +220,16 @@ impl<L: Link + Drop> Service<L> {
 
 // Whether replies are held until what was noted lasts: where there is a journal, or the server keeps notes.
 fn holds_replies<J>(server: &Server, journal: &Option<J>) -> bool
-    ensures noted { is_some server.now.notes ≡ true → result ≡ true }
-    ensures journal { is_some journal.now ≡ true → result ≡ true }
+    ensures { result ≡ (is_some server.now.notes || is_some journal.now) }
 {
     server.notes().is_some() || journal.is_some()
 }
 
 // Makes what the server noted last where it is so much that one more turn might leave it no room.
 fn settle_where_much<J: JournalOut>(server: &mut Server, journal: &mut Option<J>)
-    ensures { (noted : Option (List ℕ)) × SettlesBy noted server.old server.new
+    ensures goes { (noted : Option (List ℕ)) × SettlesBy noted server.old server.new
         × JournalGoes (journal_of J.lasting J.failed journal.old) noted (journal_of J.lasting J.failed journal.new) }
+    ensures room { LeavesRoom (journal_of J.lasting J.failed journal.new) server.new }
 {
     if !has_much(server) {
         return;
@@ -231,7 +238,9 @@ fn settle_where_much<J: JournalOut>(server: &mut Server, journal: &mut Option<J>
 }
 
 // Whether the server noted more than half of what it has room for; a turn brings less than that.
-fn has_much(server: &Server) -> bool {
+fn has_much(server: &Server) -> bool
+    ensures { result ≡ nat_lt 2097152 (length (to_note server.now.notes)) }
+{
     match server.notes() {
         Some(notes) => notes.len() > MOST_NOTED / 2,
         None => false,

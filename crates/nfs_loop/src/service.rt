@@ -3,7 +3,7 @@ ghost use Rattle.std.specs.Prelude.{◌≡◌, ℕ, List, Option, None, IfOk, On
 ghost use Rattle.slab.specs.Slab.{get};
 ghost use Rattle.nfs_lines.specs.Queued.{is_full};
 ghost use Rattle.nfs_lines.specs.Written.{PassedOn, written};
-ghost use Rattle.nfs_loop.specs.Journals.{IsSettled, JournalGoes, SettlesBy, journal_of};
+ghost use Rattle.nfs_loop.specs.Journals.{IsSettled, JournalGoes, LeavesRoom, SettlesBy, journal_of};
 ghost use Rattle.nfs_loop.specs.Stages.{Goes, IsRound, Lived, Rounds, schedule, stage};
 ghost use Rattle.nfs_loop.specs.Reports.{ComeBy};
 ghost use Rattle.nfs_loop.specs.Watching.{AreWatched};
@@ -246,6 +246,7 @@ pub(crate) fn settle<J: JournalOut>(
     ensures goes { (noted : Option (List ℕ)) × SettlesBy noted server.old server.new
         × JournalGoes (journal_of J.lasting J.failed journal.old) noted (journal_of J.lasting J.failed journal.new) }
     ensures settled { OnOk result (IsSettled (journal_of J.lasting J.failed journal.new) server.new) }
+    ensures room { LeavesRoom (journal_of J.lasting J.failed journal.new) server.new }
 {
     match journal {
         Some(journal) => server.settle(journal),

@@ -11,8 +11,8 @@ pub loop-left-preserved : goal.loop-left-preserved
 loop-left-preserved g c = record {
   goes = round_on g.L.Link.outgoing g.L.Link.incoming g.L.Link.reports c.args.self.now.housekeeping.watches c.loop-left.self.housekeeping.watches (seats c.args.self.now.clients.0) (seats c.loop-left.self.clients.0) c.args.self.now.clients.1.0 c.loop-left.self.clients.1.0 c.loop-left.left _ _ _ _ _ _
       (settled_on g.L.Link.outgoing g.L.Link.incoming g.L.Link.reports c.args.self.now.housekeeping.watches c.loop-left.self.housekeeping.watches (seats c.args.self.now.clients.0) (seats c.loop-left.self.clients.0) c.args.self.now.clients.1.0 c.loop-left.self.clients.1.0 c.loop-left.left _ _ _ _ _ _ c.loop-left.invariant.goes _ _
-      c.settle_where_much.ensures refl)
-      c.turn.new.self.housekeeping.watches (seats c.turn.new.self.clients.0) c.turn.new.self.clients.1.0 _ _ c.waiting-left.ensures.apart c.loop-left-test.true c.turn.ensures.holds c.turn.ensures.heard c.turn.ensures.goes;
+      c.settle_where_much.ensures.goes refl)
+      c.turn.new.self.housekeeping.watches (seats c.turn.new.self.clients.0) c.turn.new.self.clients.1.0 _ _ c.waiting-left.ensures.apart c.loop-left-test.true c.turn.ensures.holds c.turn.ensures.heard c.settle_where_much.ensures.room c.turn.ensures.goes;
   watched = c.turn.ensures.watched;
   looked = c.turn.ensures.looked ∙ c.loop-left.invariant.looked;
   limits = c.turn.ensures.limits ∙ c.loop-left.invariant.limits;
