@@ -11,3 +11,5 @@ pub mod Heading
 pub mod Scanning
 pub mod Lives
 pub mod Blocking
+pub mod BlocksRead
+pub mod Keeping

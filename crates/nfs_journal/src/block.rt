@@ -1,7 +1,7 @@
 //! The blocks of a journal: what was appended at once, after a header that tells whether it is whole.
 ghost use Rattle.std.specs.Prelude.{◌≡◌, ◌≢◌, ◌+◌, ◌≤◌, ◌++◌, List, ℕ, length, IfSome, IsNone};
 ghost use Rattle.std.specs.Int.{w32, w64, to_be_bytes};
-ghost use Rattle.nfs_journal.specs.Blocks.{IsHeader, IsNoHeader, fields_text, header_text, kind_number, most_bytes};
+ghost use Rattle.nfs_journal.specs.Blocks.{IsHeader, IsNoHeader, fields_text, header_text, is_allowed, kind_number, most_bytes};
 ghost use Rattle.nfs_server.specs.Entries.{checked};
 ghost use Rattle.nfs_xdr.specs.Written.{Appends};
 
@@ -15,6 +15,9 @@ pub const MOST_BLOCK_BYTES: usize = 4 << 20;
 
 /// The most bytes of a description that a journal has, without their checksum.
 pub const MOST_DESCRIPTION_BYTES: usize = 1 << 20;
+
+/// The number of the block that has the description: it stands after the exports with which a journal begins.
+pub const DESCRIPTION_NUMBER: u64 = 2;
 
 /// How many bytes the header of a block has.
 pub const BLOCK_HEADER_BYTES: usize = FIELDS_BYTES + CHECKSUM_BYTES;
@@ -106,6 +109,16 @@ fn decode_fields(kind: BlockKind, fields: &[u8]) -> BlockHeader
         kind,
         number: long_number_of(number),
         len: number_of(len),
+    }
+}
+
+impl BlockHeader {
+    /// Whether such a block may stand where its number says, and be so long: a description stands second.
+    pub fn is_allowed(self) -> bool
+        ensures { result ≡ is_allowed self }
+    {
+        let may_stand = self.kind != BlockKind::Description || self.number == DESCRIPTION_NUMBER;
+        may_stand && self.len as usize <= self.kind.most_bytes()
     }
 }
 

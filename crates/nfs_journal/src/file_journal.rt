@@ -1,12 +1,14 @@
 //! A journal that is kept in a file.
-ghost use Rattle.std.specs.Prelude.{◌≡◌, ◌+◌, ◌-◌, ◌^◌, ◌≤◌, None, false, is_some, length, min, IfOk, OnOk};
+ghost use Rattle.std.specs.Prelude.{◌≡◌, ◌+◌, ◌-◌, ◌^◌, ◌<◌, ◌≤◌, ◌++◌, true, false, [], is_some, length, min, take, IfOk, IsErr, OnOk, OnErr};
+ghost use Rattle.nfs_journal.specs.OnFile.{lasting_in, next_block, one_more, syncs_after};
+ghost use Rattle.nfs_xdr.specs.Known.{Grows, GrowsByPart};
 
 use crate::block::{BLOCK_HEADER_BYTES, BlockHeader, BlockKind, MOST_BLOCK_BYTES, encode_header};
+use crate::sync_file::SyncFile;
 use nfs_server::journal_out::{JournalFigures, JournalOut};
 use nfs_xdr::device::DeviceFault;
 use nfs_xdr::output::Output;
 use std::alloc::{AllocError, Global};
-use std::fs::OpenFile;
 use std::io::{self, ErrorKind, Write};
 use std::marker::Model;
 use std::time::{Clock, Instant};
@@ -24,8 +26,7 @@ pub enum Syncing {
     Never,
 }
 
-/// A journal in a file: what is appended at once becomes a block of it. Contracts know how long it is, how often it was
-/// synced and whether it has failed, and nothing of what the file has.
+/// A journal in a file: what is appended at once becomes a block of it.
 #[derive(Drop)]
 pub struct FileJournal<'a, R, F> {
     rt: &'a R,
@@ -46,9 +47,17 @@ impl<'a, R, F> Model for FileJournal<'a, R, F> {
     ghost use Rattle.std.specs.Prelude.{is_some};
     ghost use Rattle.nfs_journal.specs.OnFile.{OnFile, IsBuffer};
 
-    ghost Value = { OnFile };
+    ghost Value = { OnFile F };
 
-    ghost view = { λ it. record { failed = it.has_failed; has_error = is_some it.error; len = it.len; syncs = it.syncs } };
+    ghost view = { λ it. record {
+      file = it.file;
+      syncing = it.syncing;
+      failed = it.has_failed;
+      has_error = is_some it.error;
+      len = it.len;
+      next = it.next;
+      syncs = it.syncs;
+    } };
 
     ghost invariant = { λ it. IsBuffer it.buffer };
 }
@@ -64,7 +73,7 @@ impl<'a, R, F: Drop> FileJournal<'a, R, F> {
         len: u64,
         next: u64,
     ) -> Result<FileJournal<'a, R, F>, AllocError>
-        ensures { IfOk result (λ it. it ≡ record { failed = false; has_error = false; len = len; syncs = 0 }) }
+        ensures { IfOk result (λ it. it ≡ record { file = file; syncing = syncing; failed = false; has_error = false; len = len; next = next; syncs = 0 }) }
     {
         let buffer = Output::new(alloc, BUFFER_BYTES)?;
         Ok(FileJournal {
@@ -92,19 +101,54 @@ impl<R, F> FileJournal<'_, R, F> {
     }
 }
 
-impl<R: Clock, F: Write + OpenFile> FileJournal<'_, R, F> {
-    // Writes a block at the end of the file, and syncs it where each append is.
-    fn write(&mut self, bytes: &[u8]) -> io::Result<()>
-        ensures failed { self.new.failed ≡ self.old.failed }
-        ensures len { OnOk result (self.new.len ≡ min (self.old.len + (BLOCK_HEADER_BYTES + length bytes.now)) (2 ^ 64 - 1)) }
+impl<R: Clock, F: SyncFile> FileJournal<'_, R, F> {
+    // Appends a block, unless the journal has failed.
+    fn append_block(&mut self, bytes: &[u8]) -> Result<(), DeviceFault>
+        ensures ok { OnOk result (Grows (F.contents self.old.file) (next_block self.old.next bytes.now) (F.contents self.new.file)) }
+        ensures part { OnErr result (GrowsByPart (F.contents self.old.file) (next_block self.old.next bytes.now) (F.contents self.new.file)) }
+        ensures fits { OnOk result (length bytes.now ≤ MOST_BLOCK_BYTES) }
+        ensures long { MOST_BLOCK_BYTES < length bytes.now → self.new.file ≡ self.old.file }
+        ensures next { OnOk result (self.new.next ≡ self.old.next + 1) }
+        ensures syncs { OnOk result (self.new.syncs ≡ syncs_after self.old.syncing self.old.syncs) }
+        ensures synced { OnOk result (self.old.syncing ≡ Syncing.Each → F.synced self.new.file ≡ F.contents self.new.file) }
+        ensures syncing { self.new.syncing ≡ self.old.syncing }
+        ensures alive { OnOk result ((self.old.failed ≡ false) × (self.new.failed ≡ false)) }
+        ensures fault { OnErr result (self.new.failed ≡ true) }
+        ensures again { self.old.failed ≡ true → IsErr result × (self.new ≡ self.old) }
     {
-        if bytes.len() > MOST_BLOCK_BYTES {
+        if self.has_failed {
+            return Err(DeviceFault);
+        }
+        match self.write(bytes) {
+            Ok(()) => Ok(()),
+            Err(error) => {
+                self.error = Some(error);
+                self.has_failed = true;
+                Err(DeviceFault)
+            }
+        }
+    }
+
+    // Writes a block, and syncs it where each append is.
+    fn write(&mut self, bytes: &[u8]) -> io::Result<()>
+        ensures ok { OnOk result (Grows (F.contents self.old.file) (next_block self.old.next bytes.now) (F.contents self.new.file)) }
+        ensures part { OnErr result (GrowsByPart (F.contents self.old.file) (next_block self.old.next bytes.now) (F.contents self.new.file)) }
+        ensures fits { OnOk result (length bytes.now ≤ MOST_BLOCK_BYTES) }
+        ensures long { MOST_BLOCK_BYTES < length bytes.now → self.new ≡ self.old }
+        ensures next { OnOk result (self.new.next ≡ self.old.next + 1) }
+        ensures syncs { OnOk result (self.new.syncs ≡ syncs_after self.old.syncing self.old.syncs) }
+        ensures synced { OnOk result (self.old.syncing ≡ Syncing.Each → F.synced self.new.file ≡ F.contents self.new.file) }
+        ensures len { OnOk result (self.new.len ≡ min (self.old.len + (BLOCK_HEADER_BYTES + length bytes.now)) (2 ^ 64 - 1)) }
+        ensures failed { self.new.failed ≡ self.old.failed }
+        ensures syncing { self.new.syncing ≡ self.old.syncing }
+    {
+        if bytes.len() > MOST_BLOCK_BYTES || self.next == u64::MAX {
             return Err(io::Error::from(ErrorKind::InvalidInput));
         }
         self.write_block(bytes)?;
         let len = (BLOCK_HEADER_BYTES + bytes.len()) as u64;
         self.len = self.len.saturating_add(len);
-        self.next = self.next.saturating_add(1);
+        self.next += 1;
         match self.syncing {
             Syncing::Each => self.sync(),
             Syncing::Never => Ok(()),
@@ -114,7 +158,9 @@ impl<R: Clock, F: Write + OpenFile> FileJournal<'_, R, F> {
     // Writes a block of entries: at once where the buffer has room for it, else after its header.
     fn write_block(&mut self, bytes: &[u8]) -> io::Result<()>
         requires { length bytes.now ≤ MOST_BLOCK_BYTES }
-        ensures { self.new ≡ self.old }
+        ensures ok { OnOk result (Grows (F.contents self.old.file) (next_block self.old.next bytes.now) (F.contents self.new.file)) }
+        ensures part { OnErr result (GrowsByPart (F.contents self.old.file) (next_block self.old.next bytes.now) (F.contents self.new.file)) }
+        ensures rest { self.new ≡ record self.old { file = self.new.file } }
     {
         self.buffer.clear();
         let header = BlockHeader {
@@ -124,26 +170,67 @@ impl<R: Clock, F: Write + OpenFile> FileJournal<'_, R, F> {
         };
         encode_header(&mut self.buffer, header);
         if bytes.len() > self.buffer.room() {
-            self.file.write_all(self.buffer.bytes())?;
-            return self.file.write_all(bytes);
+            return write_both(&mut self.file, self.buffer.bytes(), bytes);
         }
         self.buffer.part(bytes);
-        self.file.write_all(self.buffer.bytes())
+        write_all(&mut self.file, self.buffer.bytes())
     }
 
     fn sync(&mut self) -> io::Result<()>
-        ensures failed { self.new.failed ≡ self.old.failed }
-        ensures len { self.new.len ≡ self.old.len }
-        ensures syncs { OnOk result (self.new.syncs ≡ min (self.old.syncs + 1) (2 ^ 64 - 1)) }
+        ensures contents { F.contents self.new.file ≡ F.contents self.old.file }
+        ensures synced { OnOk result (F.synced self.new.file ≡ F.contents self.new.file) }
+        ensures syncs { OnOk result (self.new.syncs ≡ one_more self.old.syncs) }
+        ensures rest { self.new ≡ record self.old { file = self.new.file; syncs = self.new.syncs } }
     {
         let began = Instant::now(self.rt).ok();
-        self.file.sync_data()?;
+        self.file.sync()?;
         self.syncs = self.syncs.saturating_add(1);
         self.sync_micros = self
             .sync_micros
             .saturating_add(micros_since(self.rt, began));
         Ok(())
     }
+}
+
+// Writes some bytes, and then others.
+fn write_both<F: Write>(file: &mut F, first: &[u8], second: &[u8]) -> io::Result<()>
+    ensures ok { OnOk result (Grows (F.contents file.old) (first.now ++ second.now) (F.contents file.new)) }
+    ensures part { OnErr result (GrowsByPart (F.contents file.old) (first.now ++ second.now) (F.contents file.new)) }
+{
+    write_all(file, first)?;
+    write_all(file, second)
+}
+
+// Writes all of some bytes, in as many calls as the file wants. At an error some first ones were written.
+fn write_all<F: Write>(file: &mut F, bytes: &[u8]) -> io::Result<()>
+    ensures ok { OnOk result (Grows (F.contents file.old) bytes.now (F.contents file.new)) }
+    ensures part { OnErr result (GrowsByPart (F.contents file.old) bytes.now (F.contents file.new)) }
+{
+    let mut at = 0;
+    while at < bytes.len() {
+        match write_some(file, &bytes[at..]) {
+            Ok(n) => at += n,
+            Err(error) => return Err(error),
+        }
+    }
+    Ok(())
+}
+
+// Writes some first ones of some bytes. At an error none were written.
+fn write_some<F: Write>(file: &mut F, bytes: &[u8]) -> io::Result<usize>
+    ensures count { IfOk result (λ n. (0 < n) × (n ≤ length bytes.now)) }
+    ensures ok { IfOk result (λ n. Grows (F.contents file.old) (take n bytes.now) (F.contents file.new)) }
+    ensures err { OnErr result (Grows (F.contents file.old) [] (F.contents file.new)) }
+{
+    for _ in 0..u64::MAX {
+        match file.write(bytes) {
+            Ok(0) => return Err(io::Error::from(ErrorKind::WriteZero)),
+            Ok(n) => return Ok(n),
+            Err(error) if error.kind() == ErrorKind::Interrupted => {}
+            Err(error) => return Err(error),
+        }
+    }
+    Err(io::Error::from(ErrorKind::Interrupted))
 }
 
 // How many microseconds have passed; none where there is no clock.
@@ -160,23 +247,13 @@ fn micros_since<R: Clock>(rt: &R, began: Option<Instant>) -> u64 {
     }
 }
 
-impl<R: Clock, F: Write + OpenFile + Drop> JournalOut for FileJournal<'_, R, F> {
-    ghost lasting = { λ _. None };
+impl<R: Clock, F: SyncFile + Drop> JournalOut for FileJournal<'_, R, F> {
+    ghost lasting = { λ it. lasting_in (F.contents it.file) it.failed it.next };
 
     ghost failed = { λ it. it.failed };
 
     fn append(&mut self, bytes: &[u8]) -> Result<(), DeviceFault> {
-        if self.has_failed {
-            return Err(DeviceFault);
-        }
-        match self.write(bytes) {
-            Ok(()) => Ok(()),
-            Err(error) => {
-                self.error = Some(error);
-                self.has_failed = true;
-                Err(DeviceFault)
-            }
-        }
+        self.append_block(bytes)
     }
 
     fn figures(&self) -> JournalFigures {

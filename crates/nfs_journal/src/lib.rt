@@ -3,6 +3,7 @@
 #![tactic(auto)]
 
 pub mod block;
+pub mod blocks;
 pub mod broken_entry;
 pub mod entry;
 mod fields;
@@ -12,3 +13,4 @@ pub mod laws;
 pub mod recovering;
 pub mod recovery;
 pub mod scan;
+pub mod sync_file;
