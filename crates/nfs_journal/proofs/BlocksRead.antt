@@ -53,7 +53,7 @@ fields_length h = three (to_be_bytes w32 (kind_number h.kind)) (to_be_bytes w64 
 checked_length : (bytes : List ℕ) → length bytes ≡ 16 → length (checked bytes) ≡ 20
 checked_length bytes e = length-append bytes (to_be_bytes w32 (crc32c bytes)) ∙ ap (λ n. n + 4) e
 
-header_length : (h : BlockHeader) → length (header_text h) ≡ 20
+pub header_length : (h : BlockHeader) → length (header_text h) ≡ 20
 header_length h = checked_length (fields_text h) (fields_length h)
 
 pub block_length : (number : ℕ) (b : Block) → length (block_text number b) ≡ 20 + length b.bytes
@@ -69,7 +69,7 @@ small_kind Entries = omega arith
 small_kind Exports = omega arith
 small_kind Description = omega arith
 
-small : (k : BlockKind) (len : ℕ) → nat_le len (most_bytes k) ≡ true → len < 2 ^ 32
+pub small : (k : BlockKind) (len : ℕ) → nat_le len (most_bytes k) ≡ true → len < 2 ^ 32
 small Entries len e = let most : len ≤ 4194304 = leb-true len 4194304 e in omega (arith, most)
 small Exports len e = let most : len ≤ 4194304 = leb-true len 4194304 e in omega (arith, most)
 small Description len e = let most : len ≤ 1048580 = leb-true len 1048580 e in omega (arith, most)
@@ -79,7 +79,7 @@ brackets k n l s = simp append_assoc
 
 -- the first field, and the last one, whatever comes after them
 module _ (k n l s rest : List ℕ) (four : length k ≡ 4) (eight : length n ≡ 8) (last : length l ≡ 4) where
-  parts : (k ++ n ++ l ++ s) ++ rest ≡ k ++ (n ++ (l ++ (s ++ rest)))
+  pub parts : (k ++ n ++ l ++ s) ++ rest ≡ k ++ (n ++ (l ++ (s ++ rest)))
   parts = append_assoc (k ++ n ++ l) s rest ∙ brackets k n l (s ++ rest)
 
   first_field : take 4 ((k ++ n ++ l ++ s) ++ rest) ≡ k
@@ -92,17 +92,17 @@ module _ (k n l s rest : List ℕ) (four : length k ≡ 4) (eight : length n ≡
       ap (drop 12) (parts ∙ sym (append_assoc k n (l ++ (s ++ rest)))) ∙ drop_at (k ++ n) (l ++ (s ++ rest)) 12 twelve in
       ap (take 4) after ∙ take_at l (s ++ rest) 4 last
 
-kind_read : (h : BlockHeader) (rest : List ℕ) → kind_of (from_be_bytes w32 (take 4 (header_text h ++ rest))) ≡ h.kind
+pub kind_read : (h : BlockHeader) (rest : List ℕ) → kind_of (from_be_bytes w32 (take 4 (header_text h ++ rest))) ≡ h.kind
 kind_read h rest =
     let field = first_field (to_be_bytes w32 (kind_number h.kind)) (to_be_bytes w64 h.number) (to_be_bytes w32 h.len) (to_be_bytes w32 (crc32c (fields_text h))) rest refl refl refl in
     ap (λ bytes. kind_of (from_be_bytes w32 bytes)) field ∙ ap kind_of (from_be_bytes-to_be_bytes_4 (kind_number h.kind) (small_kind h.kind)) ∙ kind_again h.kind
 
-len_read : (h : BlockHeader) (rest : List ℕ) → h.len < 2 ^ 32 → from_be_bytes w32 (take 4 (drop 12 (header_text h ++ rest))) ≡ h.len
+pub len_read : (h : BlockHeader) (rest : List ℕ) → h.len < 2 ^ 32 → from_be_bytes w32 (take 4 (drop 12 (header_text h ++ rest))) ≡ h.len
 len_read h rest less =
     let field = last_field (to_be_bytes w32 (kind_number h.kind)) (to_be_bytes w64 h.number) (to_be_bytes w32 h.len) (to_be_bytes w32 (crc32c (fields_text h))) rest refl refl refl in
     ap (from_be_bytes w32) field ∙ from_be_bytes-to_be_bytes_4 h.len less
 
-same_header : (a b : BlockHeader) → a.kind ≡ b.kind → a.number ≡ b.number → a.len ≡ b.len → a ≡ b
+pub same_header : (a b : BlockHeader) → a.kind ≡ b.kind → a.number ≡ b.number → a.len ≡ b.len → a ≡ b
 same_header a b k n l = λ i. record { kind = k i; number = n i; len = l i }
 
 header_read : (number : ℕ) (b : Block) (rest : List ℕ) → length b.bytes < 2 ^ 32 → header_like number (header_text (header_of number b) ++ rest) ≡ header_of number b

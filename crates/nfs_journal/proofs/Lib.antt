@@ -13,3 +13,4 @@ pub mod Lives
 pub mod Blocking
 pub mod BlocksRead
 pub mod Keeping
+pub mod NextBlocks

@@ -9,3 +9,4 @@ pub mod OnFile
 pub mod Scanning
 pub mod Lives
 pub mod Blocks
+pub mod NextBlock

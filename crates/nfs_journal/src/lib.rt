@@ -10,6 +10,7 @@ mod fields;
 pub mod file_journal;
 pub mod head;
 pub mod laws;
+pub mod next_block;
 pub mod recovering;
 pub mod recovery;
 pub mod scan;
