@@ -54,6 +54,14 @@ shrinks_then a b c xs ys first second before e =
 pub passes_none : (a : Option (List ℕ)) (pending : List ℕ) → Passes a pending a pending
 passes_none a pending = record { sent = []; pending_is = refl; grows = grows_none a }
 
+none_after : (sent left : List ℕ) → sent ++ left ≡ [] → left ≡ []
+none_after [] left e = e
+none_after (x ∷ sent) left e = cc
+
+-- what is left of what was pending was pending
+pub left_was_pending : (before after : Option (List ℕ)) (pending left : List ℕ) → Passes before pending after left → left ≢ [] → pending ≢ []
+left_was_pending before after pending left p some e = some (none_after p.sent left (sym p.pending_is ∙ e))
+
 -- some first bytes were sent, and the others are left
 pub passes_some : (a b : Option (List ℕ)) (pending left bytes : List ℕ) (n : ℕ) → bytes ≡ pending → left ≡ drop n pending → Grows a (take n bytes) b → Passes a pending b left
 passes_some a b pending left bytes n same rest grows = record {

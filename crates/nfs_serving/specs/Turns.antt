@@ -134,6 +134,16 @@ Reports turn.Owing new = new.channel.pending ≢ []
 Reports turn.Answered new = new.channel.pending ≢ []
 Reports (turn.Ended end) new = (new.end ≡ Some end) × ((new.channel.pending ≡ []) ⊎ (new.channel.failed ≡ true))
 
+-- Why replies are pending after a turn, before which these were. Where it held its replies, those that the link did not take were pending before.
+abbrev pub IsPendingSince : Bool → List ℕ → Turn → Type 0
+IsPendingSince holds before turn.Fed = Unit {0}
+IsPendingSince holds before turn.Drained = Unit {0}
+IsPendingSince holds before turn.Idle = Unit {0}
+IsPendingSince holds before turn.Held = Unit {0}
+IsPendingSince holds before turn.Owing = holds ≡ true → before ≢ []
+IsPendingSince holds before turn.Answered = holds ≡ true
+IsPendingSince holds before (turn.Ended end) = Unit {0}
+
 -- a turn after which nothing more is there has asked the link
 abbrev pub HasAsked : {L : Type 0} → (L → Option (List ℕ)) → (L → ℕ → Came → L → Type 0) → Turn → Standing L → Type 0
 HasAsked incoming reports turn.Fed new = Unit {0}

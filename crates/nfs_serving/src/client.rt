@@ -4,7 +4,7 @@ ghost use Rattle.nfs_server.specs.Connections.{IsAtStart};
 ghost use Rattle.nfs_server.specs.Feeding.{device, EndsWith};
 ghost use Rattle.nfs_server.specs.Taking.{Waits};
 ghost use Rattle.nfs_serving.specs.Outgoing.{IsDrained};
-ghost use Rattle.nfs_serving.specs.Turns.{EndsForCause, Gathers, HasAsked, IsAtRest, IsCause, IsCauseInRecords, IsEndBy, IsEndedBy, IsHeld, Rests, Takes, Reports, SendsPending, Turns, origin_of};
+ghost use Rattle.nfs_serving.specs.Turns.{EndsForCause, Gathers, HasAsked, IsAtRest, IsCause, IsCauseInRecords, IsEndBy, IsEndedBy, IsHeld, IsPendingSince, Rests, Takes, Reports, SendsPending, Turns, origin_of};
 ghost use Rattle.nfs_xdr.specs.Known.{StaysFailed};
 
 use crate::buffer::Buffer;
@@ -140,6 +140,7 @@ impl<L: Link> Client<L> {
         ensures reports { Reports result self.new }
         ensures held { result ≡ Turn.Held → IsHeld moment self.new server.new (A.full audit.new) }
         ensures holds { holds ≡ true → SendsPending L.outgoing self.old self.new }
+        ensures since { IsPendingSince holds self.old.channel.pending result }
         ensures asked { HasAsked L.incoming L.reports result self.new }
         ensures setup { server.new.setup ≡ server.old.setup }
         ensures stays { StaysFailed (A.broken audit.old) (A.contents audit.old) (A.broken audit.new) (A.contents audit.new) }
@@ -182,6 +183,7 @@ impl<L: Link> Client<L> {
         ensures reports { Reports result self.new }
         ensures held { result ≡ Turn.Held → IsHeld moment self.new server.new (A.full audit.new) }
         ensures holds { holds ≡ true → L.outgoing self.new.channel.link ≡ L.outgoing self.old.channel.link }
+        ensures since { IsPendingSince holds [] result }
         ensures asked { HasAsked L.incoming L.reports result self.new }
         ensures setup { server.new.setup ≡ server.old.setup }
         ensures stays { StaysFailed (A.broken audit.old) (A.contents audit.old) (A.broken audit.new) (A.contents audit.new) }
@@ -212,6 +214,7 @@ impl<L: Link> Client<L> {
         ensures reports { Reports result self.new }
         ensures held { result ≡ Turn.Held → IsHeld moment self.new server.new (A.full audit.new) }
         ensures holds { holds ≡ true → L.outgoing self.new.channel.link ≡ L.outgoing self.old.channel.link }
+        ensures since { IsPendingSince holds [] result }
         ensures asked { HasAsked L.incoming L.reports result self.new }
         ensures setup { server.new.setup ≡ server.old.setup }
         ensures stays { StaysFailed (A.broken audit.old) (A.contents audit.old) (A.broken audit.new) (A.contents audit.new) }
@@ -239,6 +242,7 @@ impl<L: Link> Client<L> {
         ensures pending { self.new.channel.pending ≡ [] }
         ensures reports { IfErr result (λ turn. Reports turn self.new) }
         ensures held { IfErr result (λ turn. turn ≢ Turn.Held) }
+        ensures since { (holds : Bool) → IfErr result (IsPendingSince holds []) }
         ensures drained { IfOk result (λ may_be_more. may_be_more ≡ false → IsDrained L.incoming L.reports self.new.channel.link) }
         ensures asked { IfErr result (λ turn. HasAsked L.incoming L.reports turn self.new) }
         ensures cause { (audit_failed : Bool) → IsCause L.incoming L.failed audit_failed self.new.end self.new }
@@ -277,6 +281,7 @@ impl<L: Link> Client<L> {
         ensures reports { Reports result self.new }
         ensures held { result ≡ Turn.Held → IsHeld moment self.new server.new (A.full audit.new) }
         ensures holds { holds ≡ true → L.outgoing self.new.channel.link ≡ L.outgoing self.old.channel.link }
+        ensures since { IsPendingSince holds [] result }
         ensures asked { HasAsked L.incoming L.reports result self.new }
         ensures setup { server.new.setup ≡ server.old.setup }
         ensures stays { StaysFailed (A.broken audit.old) (A.contents audit.old) (A.broken audit.new) (A.contents audit.new) }
@@ -300,6 +305,7 @@ impl<L: Link> Client<L> {
         ensures calls { self.new.calls ≡ self.old.calls }
         ensures reports { Reports result self.new }
         ensures held { result ≡ Turn.Held → stop ≢ Stop.Done }
+        ensures since { IsPendingSince holds [] result }
         ensures asked { HasAsked L.incoming L.reports result self.new }
         ensures ends { (self.new.end ≡ self.old.end) ⊎ ((self.new.end ≡ Some (End.Fault ServeFault.WriteFault)) × (self.new.channel.failed ≡ true)) }
         ensures cause { (audit_failed : Bool) → IsCauseInRecords self.old.connection.ended audit_failed self.old.end → IsCause L.incoming L.failed audit_failed self.new.end self.new }
