@@ -2,6 +2,11 @@
 use Rattle.std.specs.Prelude.{◌≡◌, ℕ, ◌+◌, ◌-◌, ◌^◌, ◌||◌, Bool, true, false, min, nat_eq, nat_le, Option, Some, None, if◌then◌else◌}
 use Rattle.nfs_loop.specs.declared.attendant.Standing.{Standing}
 
+-- whether so many connections have ended as there may be
+abbrev pub all_ended : Option ℕ → ℕ → Bool
+all_ended None ended = false
+all_ended (Some connections) ended = nat_le connections ended
+
 -- it goes on for 10 seconds from when it is told first
 abbrev pub until_told : Bool → ℕ → Option ℕ → Option ℕ
 until_told told now (Some until) = Some until

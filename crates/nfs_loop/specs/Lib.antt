@@ -1,4 +1,5 @@
 pub mod Ending
+pub mod Timeouts
 pub mod Journals
 pub mod Peers
 pub mod Reports

@@ -1,11 +1,15 @@
 //! What a service keeps beside its clients.
-ghost use Rattle.std.specs.Prelude.{◌≡◌, ◌⊎◌, ◌+◌, ◌/◌, ◌<◌, ℕ, [], false, Some, IfNone, IfSome, slice_set};
+ghost use Rattle.std.specs.Prelude.{◌≡◌, ◌⊎◌, ◌+◌, ◌/◌, ◌<◌, ◌≤◌, ◌&&◌, ◌||◌, ℕ, [], false, true, not, nat_eq, nat_lt, None, Some, is_some, IfNone, IfSome, slice_set};
+ghost use Rattle.slab.specs.Slab.{slab_len};
 ghost use Rattle.nfs_lines.specs.Written.{PassedOn, written};
 ghost use Rattle.nfs_loop.specs.Attending.{MayReload};
 ghost use Rattle.nfs_loop.specs.Refusing.{hold_for};
 ghost use Rattle.nfs_loop.specs.Reports.{Accounts};
-ghost use Rattle.nfs_loop.specs.Ending.{EndsAfter, EndsIfSaved, is_at_end, until_told};
+ghost use Rattle.nfs_loop.specs.Ending.{EndsAfter, EndsIfSaved, all_ended, is_at_end, until_told};
 ghost use Rattle.nfs_loop.specs.Stages.{looked_after};
+ghost use Rattle.nfs_loop.specs.Timeouts.{IsWithin};
+ghost use Rattle.nfs_loop.specs.Watching.{heard_at, held_count};
+ghost use Rattle.nfs_serving.specs.Turns.{IsAtRest};
 
 use crate::attendant::{Attendant, Standing};
 use crate::call_rate::CallRate;
@@ -123,7 +127,9 @@ impl Housekeeping {
 
     /// Whether all connections that there may be have ended, or the service was told to end and goes on no
     /// more.
-    pub(crate) fn is_done(&self) -> bool {
+    pub(crate) fn is_done(&self) -> bool
+        ensures { result ≡ (self.now.is_over || all_ended self.now.limits.connections self.now.ended) }
+    {
         if self.is_over {
             return true;
         }
@@ -135,7 +141,15 @@ impl Housekeeping {
 
     /// For how long a service with so many clients waits, of which none waits for a turn: until something
     /// is ready; not for long where lines wait.
-    pub(crate) fn timeout(&self, clients: usize, has_lines: bool) -> Option<Duration> {
+    pub(crate) fn timeout(&self, clients: usize, has_lines: bool) -> Option<Duration>
+        ensures connections { self.now.waiting ≡ Waiting.Some → IsWithin 0 result }
+        ensures lines { has_lines ≡ true → IsWithin 10 result }
+        ensures held { nat_lt 0 (held_count self.now.watches) ≡ true → IsWithin 10 result }
+        ensures refused { self.now.waiting ≡ Waiting.Refused → IsWithin 100 result }
+        ensures idle { is_some self.now.limits.idle ≡ true → 0 < clients → IsWithin 1000 result }
+        ensures closed { self.now.is_closed ≡ true → IsWithin 1000 result }
+        ensures watched { self.now.limits.is_watched ≡ true → IsWithin 1000 result }
+    {
         if self.waiting == Waiting::Some {
             Some(Duration::ZERO)
         } else if has_lines || self.watches.has_held() {
@@ -150,7 +164,10 @@ impl Housekeeping {
     }
 
     // Whether there is something to do once a second.
-    fn looks_at_the_clock(&self, clients: usize) -> bool {
+    fn looks_at_the_clock(&self, clients: usize) -> bool
+        ensures { result ≡ (is_some self.now.limits.idle && nat_lt 0 clients || is_some self.now.limits.save_every && self.now.is_touched
+            || self.now.is_closed || self.now.limits.is_watched) }
+    {
         let may_be_silent = self.limits.idle.is_some() && clients > 0;
         let may_be_saved = self.limits.save_every.is_some() && self.is_touched;
         may_be_silent || may_be_saved || self.is_closed || self.limits.is_watched
@@ -246,7 +263,9 @@ impl Housekeeping {
     }
 
     // Whether the attendant is asked in this round.
-    fn is_to_ask(&self, seconds: u64) -> bool {
+    fn is_to_ask(&self, seconds: u64) -> bool
+        ensures { result ≡ (self.now.is_woken || self.now.limits.is_watched && not (nat_eq seconds self.now.asked)) }
+    {
         self.is_woken || (self.limits.is_watched && seconds != self.asked)
     }
 
@@ -278,7 +297,9 @@ impl Housekeeping {
     }
 
     // How many clients are busy, once the service is told to end.
-    fn count_busy<L: Link + Drop>(&self, clients: &Clients<Member<L>>, seconds: u64) -> usize {
+    fn count_busy<L: Link + Drop>(&self, clients: &Clients<Member<L>>, seconds: u64) -> usize
+        ensures { self.now.until ≡ None → result ≡ slab_len clients.now.0 }
+    {
         if self.until.is_none() {
             return clients.len();
         }
@@ -294,7 +315,10 @@ impl Housekeeping {
     }
 
     // Whether the client of a key has something on its way, or was heard of lately.
-    fn is_busy<L: Link + Drop>(&self, member: &Member<L>, key: usize, seconds: u64) -> bool {
+    fn is_busy<L: Link + Drop>(&self, member: &Member<L>, key: usize, seconds: u64) -> bool
+        ensures rest { result ≡ false → IsAtRest member.now.client }
+        ensures quiet { result ≡ false → heard_at self.now.watches key + QUIET_SECONDS ≤ seconds }
+    {
         !member.client.is_at_rest()
             || seconds.saturating_sub(self.watches.heard(key)) < QUIET_SECONDS
     }

@@ -1,17 +1,18 @@
 //! A service that serves many clients at once, in turns.
-ghost use Rattle.std.specs.Prelude.{◌≡◌, ℕ, List, Option, None, IfOk, OnOk, OnErr};
+ghost use Rattle.std.specs.Prelude.{◌≡◌, ◌≢◌, ℕ, List, [], true, nat_lt, Option, None, IfOk, OnOk, OnErr};
 ghost use Rattle.slab.specs.Slab.{get};
 ghost use Rattle.nfs_lines.specs.Queued.{is_full};
 ghost use Rattle.nfs_lines.specs.Written.{PassedOn, written};
 ghost use Rattle.nfs_loop.specs.Journals.{IsSettled, JournalGoes, LeavesRoom, SettlesBy, journal_of};
 ghost use Rattle.nfs_loop.specs.Stages.{Goes, IsRound, Lived, Rounds, schedule, stage};
 ghost use Rattle.nfs_loop.specs.Reports.{ComeBy};
-ghost use Rattle.nfs_loop.specs.Watching.{AreWatched};
+ghost use Rattle.nfs_loop.specs.Timeouts.{IsWithin};
+ghost use Rattle.nfs_loop.specs.Watching.{AreWatched, held_count};
 ghost use Rattle.nfs_server.specs.Fits.{History, Fits};
 ghost use Rattle.nfs_serving.specs.Service.{Change};
 
 use crate::attendant::Attendant;
-use crate::housekeeping::{Housekeeping, LINES_MILLIS};
+use crate::housekeeping::{Housekeeping, LINES_MILLIS, Waiting};
 use crate::limits::Limits;
 use crate::member::Member;
 use crate::network::Network;
@@ -205,7 +206,12 @@ impl<L: Link + Drop> Service<L> {
     }
 
     // For how long to wait: not at all where a client waits for a turn.
-    fn timeout(&self, has_lines: bool) -> Option<Duration> {
+    fn timeout(&self, has_lines: bool) -> Option<Duration>
+        ensures ready { self.now.clients.1.0 ≢ [] → IsWithin 0 result }
+        ensures connections { self.now.housekeeping.waiting ≡ Waiting.Some → IsWithin 0 result }
+        ensures lines { has_lines ≡ true → IsWithin 10 result }
+        ensures held { nat_lt 0 (held_count self.now.housekeeping.watches) ≡ true → IsWithin 10 result }
+    {
         if self.clients.is_any_waiting() {
             return Some(Duration::ZERO);
         }
