@@ -1,5 +1,5 @@
 //! Whose turn it is.
-ghost use Rattle.std.specs.Prelude.{◌≡◌, ◌↔◌, ◌||◌, ℕ, List, Option, None, false, true, is_some, length, nat_lt};
+ghost use Rattle.std.specs.Prelude.{◌≡◌, ◌↔◌, ◌||◌, ℕ, List, Option, None, false, true, is_some, length, nat_lt, slice_set, if◌then◌else◌};
 ghost use Rattle.slab.specs.Slab.{get};
 ghost use Rattle.nfs_lines.specs.Queued.{is_full};
 ghost use Rattle.nfs_lines.specs.Written.{written};
@@ -7,7 +7,7 @@ ghost use Rattle.nfs_loop.specs.Journals.{JournalGoes, LeavesRoom, SettlesBy, jo
 ghost use Rattle.nfs_loop.specs.Stages.{AllOthersStay, AreTurnsBeside, AsksAll, Goes, HeardInTurns, Notes, TurnsFirst, WaitAgain, first_of, most_asked, noted, seats, stage, turned};
 ghost use Rattle.nfs_loop.specs.Reports.{Accounts};
 ghost use Rattle.nfs_server.specs.Notes.{to_note};
-ghost use Rattle.nfs_loop.specs.Watching.{AreWatched, FirstMayBeHeld, ReleasesBy, ReleasesOne, SomeMayBeHeld, heard_at, hold_at};
+ghost use Rattle.nfs_loop.specs.Watching.{AreWatched, FirstMayBeHeld, ReleasesBy, ReleasesOne, SomeMayBeHeld, heard_at, hold_at, watch_at};
 
 use crate::housekeeping::Waiting;
 use crate::network::{EVENTS, Network, Ready};
@@ -63,6 +63,9 @@ impl<L: Link + Drop> Service<L> {
         ensures heard { (k : ℕ) → heard_at self.new.housekeeping.watches k ≡ heard_at self.old.housekeeping.watches k }
         ensures queue { self.new.clients.1.0 ≡ noted (get self.old.clients.0 key)
             (hold_at self.old.housekeeping.watches key) key self.old.clients.1.0 }
+        ensures closing { self.new.housekeeping.watches ≡ (if is_closing
+            then slice_set self.old.housekeeping.watches key (record (watch_at self.old.housekeeping.watches key) { is_closing = true })
+            else self.old.housekeeping.watches) }
         ensures looked { self.new.housekeeping.looked ≡ self.old.housekeeping.looked }
         ensures limits { self.new.housekeeping.limits ≡ self.old.housekeeping.limits }
         ensures watched { AreWatched self.new.clients.0 self.new.housekeeping.watches }

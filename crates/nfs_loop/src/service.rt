@@ -1,5 +1,5 @@
 //! A service that serves many clients at once, in turns.
-ghost use Rattle.std.specs.Prelude.{◌≡◌, ◌≢◌, ℕ, List, [], true, nat_lt, Option, None, IfOk, OnOk, OnErr};
+ghost use Rattle.std.specs.Prelude.{◌≡◌, ◌≢◌, ℕ, List, [], true, nat_lt, Option, None, Some, option_map, IfOk, IsErrOf, OnOk, OnErr};
 ghost use Rattle.slab.specs.Slab.{get};
 ghost use Rattle.nfs_lines.specs.Queued.{is_full};
 ghost use Rattle.nfs_lines.specs.Written.{PassedOn, written};
@@ -253,6 +253,8 @@ pub(crate) fn settle<J: JournalOut>(
         × JournalGoes (journal_of J.lasting J.failed journal.old) noted (journal_of J.lasting J.failed journal.new) }
     ensures settled { OnOk result (IsSettled (journal_of J.lasting J.failed journal.new) server.new) }
     ensures room { LeavesRoom (journal_of J.lasting J.failed journal.new) server.new }
+    ensures lost { IsErrOf result SettleFault.Lost → server.old.notes ≡ None }
+    ensures failed { IsErrOf result SettleFault.JournalFault → option_map J.failed journal.new ≡ Some true }
 {
     match journal {
         Some(journal) => server.settle(journal),
