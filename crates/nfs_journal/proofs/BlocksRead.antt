@@ -50,11 +50,11 @@ three k n l p q r = omega (arith, length-append (k ++ n) l, length-append k n, p
 fields_length : (h : BlockHeader) → length (fields_text h) ≡ 16
 fields_length h = three (to_be_bytes w32 (kind_number h.kind)) (to_be_bytes w64 h.number) (to_be_bytes w32 h.len) refl refl refl
 
-checked_length : (bytes : List ℕ) → length bytes ≡ 16 → length (checked bytes) ≡ 20
-checked_length bytes e = length-append bytes (to_be_bytes w32 (crc32c bytes)) ∙ ap (λ n. n + 4) e
+pub checked_length : (bytes : List ℕ) → length (checked bytes) ≡ length bytes + 4
+checked_length bytes = length-append bytes (to_be_bytes w32 (crc32c bytes))
 
 pub header_length : (h : BlockHeader) → length (header_text h) ≡ 20
-header_length h = checked_length (fields_text h) (fields_length h)
+header_length h = checked_length (fields_text h) ∙ ap (λ n. n + 4) (fields_length h)
 
 pub block_length : (number : ℕ) (b : Block) → length (block_text number b) ≡ 20 + length b.bytes
 block_length number b = length-append (header_text (header_of number b)) b.bytes ∙ ap (λ n. n + length b.bytes) (header_length (header_of number b))

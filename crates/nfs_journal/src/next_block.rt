@@ -107,8 +107,8 @@ fn read_some<F: Read>(file: &mut F, bytes: &mut [u8]) -> io::Result<usize>
     Err(io::Error::from(ErrorKind::Interrupted))
 }
 
-/// Whether these bytes and all after them to the end of the file are zeros: it is read through this chunk.
-pub fn is_unwritten<F: Read>(file: &mut F, front: &[u8], chunk: &mut [u8]) -> io::Result<bool>
+// Whether these bytes and all after them to the end of the file are zeros: it is read through this chunk.
+fn is_unwritten<F: Read>(file: &mut F, front: &[u8], chunk: &mut [u8]) -> io::Result<bool>
     requires { 0 < length chunk.old }
     ensures { IfOk result (λ is. OfLeft (λ after. IsTrue is ↔ AreZeros (front.now ++ after)) (F.remaining file.old)) }
 {
@@ -135,8 +135,8 @@ fn are_zeros_on<F: Read>(file: &mut F, chunk: &mut [u8]) -> io::Result<bool>
     Err(io::Error::from(ErrorKind::Interrupted))
 }
 
-// Whether these are zeros.
-fn are_zeros(bytes: &[u8]) -> bool
+/// Whether these are zeros.
+pub fn are_zeros(bytes: &[u8]) -> bool
     ensures { IsTrue result ↔ AreZeros bytes.now }
 {
     for byte in bytes {
