@@ -3,3 +3,4 @@ pub mod Digests
 pub mod Saving
 pub mod Sharing
 pub mod Totals
+pub mod JournalFiles

@@ -62,7 +62,7 @@ pub(crate) fn open_journal<'r, R: Files<File = File> + Clock + Eprint>(
 fn begin<R: Files + Clock + Eprint>(
     rt: &R,
     alloc: Global,
-    file: &mut JournalFile<'_>,
+    file: &mut JournalFile<'_, File>,
     life: Life,
     text: &LifeText,
     cache: usize,
@@ -86,7 +86,7 @@ fn begin<R: Files + Clock + Eprint>(
 fn go_on<R: Files + Clock + Eprint>(
     rt: &R,
     alloc: Global,
-    file: &mut JournalFile<'_>,
+    file: &mut JournalFile<'_, File>,
     head: Head,
     life: Life,
     text: &LifeText,

@@ -1,15 +1,23 @@
 //! The file of a journal.
-ghost use Rattle.std.specs.Prelude.{◌≤◌, ◌+◌, IfOk, length};
+ghost use Rattle.std.specs.Prelude.{◌≡◌, ◌≤◌, ◌<◌, ◌+◌, ◌-◌, ◌^◌, ℕ, List, None, length, IfOk, IfSome, IsTrue, OnOk, drop, false, ◌++◌};
+ghost use Rattle.nfs_commands.specs.JournalFiles.{AllTaken, ReadsAll, StandsNext, TakesBlock, capped, damaged_at, placed_in};
+ghost use Rattle.nfs_journal.specs.Blocks.{block_text};
+ghost use Rattle.nfs_journal.specs.Heads.{head_record};
+ghost use Rattle.nfs_journal.specs.NextBlock.{AreZeros};
+ghost use Rattle.nfs_server.specs.Entries.{checked};
+ghost use Rattle.nfs_source.specs.Status.{status_of};
+ghost use Rattle.nfs_xdr.specs.Known.{Grows, Shrinks};
 
 use crate::life_text::LifeText;
 use crate::saved_file::{cannot_write, sync_directory};
 use nfs_journal::block::{
-    BLOCK_HEADER_BYTES, BlockHeader, BlockKind, MOST_BLOCK_BYTES, decode_header, decode_lines,
+    BLOCK_HEADER_BYTES, BlockHeader, BlockKind, DESCRIPTION_NUMBER, MOST_BLOCK_BYTES, decode_lines,
     encode_header, encode_lines,
 };
 use nfs_journal::broken_entry::BrokenEntry;
 use nfs_journal::file_journal::{FileJournal, Syncing};
 use nfs_journal::head::{HEAD_BYTES, Head, HeadFault, decode_head, encode_head};
+use nfs_journal::next_block::{Next, ReadFault, are_zeros, fill, read_block};
 use nfs_journal::recovery::RecoveryFault;
 use nfs_journal::scan::Scan;
 use nfs_server::entry::CHECKSUM_BYTES;
@@ -21,37 +29,47 @@ use std::fs::{File, OpenFile, OpenOptions, TryLockError};
 use std::io::{self, ErrorKind, Read, Write};
 use std::rt::Files;
 
-// The number of the block that has the description: it stands after the exports with which a journal begins.
-const DESCRIPTION_NUMBER: u64 = 2;
-
-// How much is read at once.
-const CHUNK_BYTES: usize = 65_536;
-
 /// What reads a journal, block by block.
 pub(crate) trait EntryReader {
-    /// Takes the first lines of a description, whose exports are in force for the entries that follow. Whether they are
-    /// such lines; `Memory`.
-    fn take_exports(&mut self, text: &[u8]) -> Result<bool, Fault>;
+    /// That it took entries, of which the last may be unfinished.
+    ghost entries_taken: { Self → List ℕ → Self → Type 0 };
 
-    /// Takes the bytes of the next block. The first entry that is at fault, with which nothing more is read.
-    fn take(&mut self, bytes: &[u8]) -> Result<(), BrokenEntry>;
+    /// That it took the first lines of a description.
+    ghost exports_taken: { Self → List ℕ → Self → Type 0 };
 
     /// How many entries were read.
-    fn entries(&self) -> u64;
+    ghost count: { Self → ℕ };
+
+    /// How many bytes stand after the last of them.
+    ghost rest: { Self → ℕ };
+
+    /// Takes the first lines of a description, whose exports are in force for the entries that follow. Whether they are
+    /// such lines; `Memory`.
+    fn take_exports(&mut self, text: &[u8]) -> Result<bool, Fault>
+        ensures { IfOk result (λ is. IsTrue is → exports_taken self.old text.now self.new) };
+
+    /// Takes the bytes of the next block. The first entry that is at fault, with which nothing more is read.
+    fn take(&mut self, bytes: &[u8]) -> Result<(), BrokenEntry>
+        ensures { OnOk result (entries_taken self.old bytes.now self.new) };
+
+    /// How many entries were read.
+    fn entries(&self) -> u64
+        ensures { result ≡ count self.now };
 
     /// The offset after the last of them, among the bytes of entries alone.
     fn end(&self) -> u64;
 
     /// How many bytes stand after the last of them.
-    fn unfinished(&self) -> u64;
+    fn unfinished(&self) -> u64
+        ensures { result ≡ rest self.now };
 }
 
 /// The file of a journal, which no other server has.
 #[derive(Drop)]
-pub(crate) struct JournalFile<'a> {
+pub(crate) struct JournalFile<'a, F> {
     alloc: Global,
     name: &'a str,
-    file: File,
+    file: F,
     // Where the last block ends that was read.
     end: u64,
     // The number of the next one.
@@ -60,20 +78,9 @@ pub(crate) struct JournalFile<'a> {
     entries: u64,
 }
 
-// What stands after the blocks that were read.
-#[derive(Clone, Copy, PartialEq, Eq)]
-enum Next {
-    // A block.
-    Block(BlockKind),
-    // Nothing, or a block that was not written whole.
-    End,
-    // No block.
-    Damaged,
-}
-
-impl<'a> JournalFile<'a> {
+impl<'a> JournalFile<'a, File> {
     // Nothing of it was read.
-    fn of(alloc: Global, name: &'a str, file: File) -> JournalFile<'a> {
+    fn of(alloc: Global, name: &'a str, file: File) -> JournalFile<'a, File> {
         JournalFile {
             alloc,
             name,
@@ -90,7 +97,7 @@ impl<'a> JournalFile<'a> {
         rt: &R,
         alloc: Global,
         name: &'a str,
-    ) -> Result<JournalFile<'a>, Fault> {
+    ) -> Result<JournalFile<'a, File>, Fault> {
         let mut options = OpenOptions::new();
         options.read(true).append(true).create(true);
         JournalFile::open_with(rt, alloc, name, &options)
@@ -101,7 +108,7 @@ impl<'a> JournalFile<'a> {
         rt: &R,
         alloc: Global,
         name: &'a str,
-    ) -> Result<JournalFile<'a>, Fault> {
+    ) -> Result<JournalFile<'a, File>, Fault> {
         let mut options = OpenOptions::new();
         options.read(true).append(true);
         JournalFile::open_with(rt, alloc, name, &options)
@@ -113,7 +120,7 @@ impl<'a> JournalFile<'a> {
         alloc: Global,
         name: &'a str,
         options: &OpenOptions,
-    ) -> Result<JournalFile<'a>, Fault> {
+    ) -> Result<JournalFile<'a, File>, Fault> {
         let file = match options.open(rt, name) {
             Ok(file) => file,
             Err(error) => return Err(cannot_write(alloc, name, error)),
@@ -135,7 +142,7 @@ impl<'a> JournalFile<'a> {
         rt: &R,
         alloc: Global,
         name: &'a str,
-    ) -> Result<JournalFile<'a>, Fault> {
+    ) -> Result<JournalFile<'a, File>, Fault> {
         let file = match OpenOptions::new().read(true).open(rt, name) {
             Ok(file) => file,
             Err(error) => return Err(cannot_read(alloc, name, error)),
@@ -151,6 +158,27 @@ impl<'a> JournalFile<'a> {
         }
     }
 
+    /// The journal itself, still locked, to which blocks are appended from now on.
+    /// `Memory`.
+    pub(crate) fn into_journal<R>(
+        self,
+        rt: &R,
+        syncing: Syncing,
+    ) -> Result<FileJournal<'_, R, File>, AllocError>
+        ensures { IfOk result (λ it. (it.next ≡ self.entry.next) × (it.len ≡ self.entry.end) × (it.failed ≡ false)) }
+    {
+        let JournalFile {
+            alloc,
+            file,
+            end,
+            next,
+            ..
+        } = self;
+        FileJournal::new(rt, alloc, file, syncing, end, next)
+    }
+}
+
+impl<'a, F: Read + Write + OpenFile> JournalFile<'a, F> {
     /// How many bytes it has. `CannotRead` where the system doesn't say it, or where it is no regular file, `Memory`.
     pub(crate) fn len(&self) -> Result<u64, Fault> {
         match self.file.metadata() {
@@ -165,9 +193,15 @@ impl<'a> JournalFile<'a> {
 
     /// Its head, which is read first; `None` where nothing but the beginning of one was written. `CannotRead`,
     /// `Journal` where that is no head of this version, `Memory`.
-    pub(crate) fn head(&mut self) -> Result<Option<Head>, Fault> {
+    pub(crate) fn head(&mut self) -> Result<Option<Head>, Fault>
+        ensures head { IfOk result (λ found. IfSome found (λ head. Shrinks (F.remaining self.old.file) (head_record head) (F.remaining self.new.file))) }
+        ensures rest { self.new ≡ record self.old { file = self.new.file } }
+    {
         let mut bytes = [0; HEAD_BYTES];
-        let len = self.fill(&mut bytes)?;
+        let len = match fill(&mut self.file, &mut bytes) {
+            Ok(len) => len,
+            Err(error) => return Err(self.cannot_read(error)),
+        };
         match decode_head(&bytes[..len]) {
             Ok(head) => Ok(Some(head)),
             Err(HeadFault::Unfinished) => Ok(None),
@@ -179,41 +213,12 @@ impl<'a> JournalFile<'a> {
         }
     }
 
-    // Reads until this is full, or to the end of the file. How many bytes that are.
-    fn fill(&mut self, bytes: &mut [u8]) -> Result<usize, Fault>
-        ensures { IfOk result (λ len. len ≤ length bytes.new) }
-    {
-        let mut len = 0usize;
-        for _ in 0..u64::MAX {
-            let Some(rest) = bytes.get_mut(len..) else {
-                break;
-            };
-            let read = self.read(rest)?;
-            if read == 0 {
-                break;
-            }
-            len = len.saturating_add(read);
-        }
-        Ok(len.min(bytes.len()))
-    }
-
-    // How many bytes were read, none only at the end.
-    fn read(&mut self, bytes: &mut [u8]) -> Result<usize, Fault>
-        ensures { IfOk result (λ len. len ≤ length bytes.new) }
-    {
-        for _ in 0..u64::MAX {
-            match self.file.read(bytes) {
-                Err(error) if error.kind() == ErrorKind::Interrupted => {}
-                Err(error) => return Err(self.cannot_read(error)),
-                Ok(len) => return Ok(len),
-            }
-        }
-        Err(self.cannot_read(io::Error::from(ErrorKind::Interrupted)))
-    }
-
     /// Reads all blocks after the head, up to the end or to a block that was not written whole. `CannotRead`, `Journal`
     /// with the first entry that is at fault, `Memory`.
-    pub(crate) fn read_entries<E: EntryReader>(&mut self, entries: &mut E) -> Result<(), Fault> {
+    pub(crate) fn read_entries<E: EntryReader>(&mut self, entries: &mut E) -> Result<(), Fault>
+        ensures { OnOk result (ReadsAll (AllTaken E.entries_taken E.rest) E.exports_taken self.old.next (F.remaining self.old.file)
+            entries.old entries.new self.new.next) }
+    {
         match self.break_of(entries)? {
             Some(broken) => Err(self.broken(broken)),
             None => Ok(()),
@@ -224,20 +229,24 @@ impl<'a> JournalFile<'a> {
     pub(crate) fn break_of<E: EntryReader>(
         &mut self,
         entries: &mut E,
-    ) -> Result<Option<BrokenEntry>, Fault> {
+    ) -> Result<Option<BrokenEntry>, Fault>
+        ensures { IfOk result (λ broken. broken ≡ None → ReadsAll (AllTaken E.entries_taken E.rest) E.exports_taken self.old.next
+            (F.remaining self.old.file) entries.old entries.new self.new.next) }
+    {
         let mut bytes = Vec::new(self.alloc);
-        for _ in 0..u64::MAX {
-            let broken = match self.next_block(&mut bytes)? {
-                Next::Block(kind) => self.hand_on(kind, bytes.as_slice(), entries)?,
-                Next::End => break,
-                Next::Damaged => Some(self.damaged(entries)),
+        while self.next < u64::MAX {
+            let kind = match self.next_block(&mut bytes)? {
+                Next::Block(kind) => kind,
+                Next::End => return Ok(None),
+                Next::Damaged => break,
             };
+            let broken = self.hand_on(kind, bytes.as_slice(), entries)?;
             if broken.is_some() {
                 return Ok(broken);
             }
             self.pass(bytes.len(), entries.entries());
         }
-        Ok(None)
+        Ok(Some(self.damaged(entries)))
     }
 
     // Has the bytes of a block taken. The first entry that is at fault, if one is.
@@ -246,21 +255,14 @@ impl<'a> JournalFile<'a> {
         kind: BlockKind,
         bytes: &[u8],
         entries: &mut E,
-    ) -> Result<Option<BrokenEntry>, Fault> {
+    ) -> Result<Option<BrokenEntry>, Fault>
+        ensures { IfOk result (λ broken. broken ≡ None → TakesBlock (AllTaken E.entries_taken E.rest) E.exports_taken kind bytes.now entries.old entries.new) }
+    {
         let is_whole = match kind {
-            BlockKind::Exports => match decode_lines(bytes) {
-                Some(text) => entries.take_exports(text)?,
-                None => false,
-            },
+            BlockKind::Entries => return Ok(self.hand_on_entries(bytes, entries)),
+            BlockKind::Exports => hand_on_exports(bytes, entries)?,
             // Its checksum is looked at where it is shown, since nothing else depends on it.
             BlockKind::Description => true,
-            BlockKind::Entries => {
-                let start = entries.end();
-                if let Err(broken) = entries.take(bytes) {
-                    return Ok(Some(self.placed(broken, start)));
-                }
-                entries.unfinished() == 0
-            }
         };
         if is_whole {
             Ok(None)
@@ -269,18 +271,31 @@ impl<'a> JournalFile<'a> {
         }
     }
 
+    // Has entries taken. The first that is at fault, if one is: one that is not whole where its block ends is.
+    fn hand_on_entries<E: EntryReader>(&self, bytes: &[u8], entries: &mut E) -> Option<BrokenEntry>
+        ensures { result ≡ None → AllTaken E.entries_taken E.rest entries.old bytes.now entries.new }
+    {
+        let start = entries.end();
+        let broken = match entries.take(bytes) {
+            Ok(()) if entries.unfinished() == 0 => return None,
+            Ok(()) => damaged_entry(entries.entries(), entries.end()),
+            Err(broken) => broken,
+        };
+        Some(self.placed(broken, start))
+    }
+
     // The block that is next, as damaged.
-    fn damaged<E: EntryReader>(&self, entries: &E) -> BrokenEntry {
-        BrokenEntry {
-            entry: entries.entries().saturating_add(1),
-            offset: self.end,
-            fault: RecoveryFault::BadEntry,
-        }
+    fn damaged<E: EntryReader>(&self, entries: &E) -> BrokenEntry
+        ensures { result ≡ damaged_at (E.count entries.now) self.now.end }
+    {
+        damaged_entry(entries.entries(), self.end)
     }
 
     // A fault of an entry of the block that is next, whose offset is counted from the beginning of the block, which has this
     // one.
-    fn placed(&self, broken: BrokenEntry, start: u64) -> BrokenEntry {
+    fn placed(&self, broken: BrokenEntry, start: u64) -> BrokenEntry
+        ensures { result ≡ placed_in self.now.end start broken }
+    {
         let before = self.end.saturating_add(BLOCK_HEADER_BYTES as u64);
         let within = broken.offset.saturating_sub(start);
         BrokenEntry {
@@ -290,7 +305,9 @@ impl<'a> JournalFile<'a> {
     }
 
     // Goes over the block that is next, which has so many bytes, and with which so many entries were read.
-    fn pass(&mut self, len: usize, entries: u64) {
+    fn pass(&mut self, len: usize, entries: u64)
+        ensures { self.new ≡ record self.old { end = capped (self.old.end + (BLOCK_HEADER_BYTES + len)); next = capped (self.old.next + 1); entries = entries } }
+    {
         let len = (len as u64).saturating_add(BLOCK_HEADER_BYTES as u64);
         self.end = self.end.saturating_add(len);
         self.next = self.next.saturating_add(1);
@@ -298,26 +315,34 @@ impl<'a> JournalFile<'a> {
     }
 
     // Reads what is next, and the bytes of a block.
-    fn next_block(&mut self, bytes: &mut Vec<u8>) -> Result<Next, Fault> {
-        let mut header = [0; BLOCK_HEADER_BYTES];
-        if self.fill(&mut header)? < BLOCK_HEADER_BYTES {
-            return Ok(Next::End);
-        }
-        let Some(header) = decode_header(&header) else {
-            return self.after_bytes(&header);
+    fn next_block(&mut self, bytes: &mut Vec<u8>) -> Result<Next, Fault>
+        ensures next { IfOk result (λ next. StandsNext next self.old.next (F.remaining self.old.file) bytes.new.items (F.remaining self.new.file)) }
+        ensures rest { self.new ≡ record self.old { file = self.new.file } }
+    {
+        let next = match read_block(&mut self.file, self.next, bytes) {
+            Ok(next) => next,
+            Err(fault) => return Err(self.not_read(fault)),
         };
-        if header.number != self.next || !is_allowed(header) {
-            return Ok(Next::Damaged);
+        let Next::Block(kind) = next else {
+            return Ok(next);
+        };
+        if self.is_torn(kind, bytes.as_slice())? {
+            Ok(Next::End)
+        } else {
+            Ok(next)
         }
-        bytes.resize(header.len as usize, 0).map_err(Fault::Memory)?;
-        if self.fill(bytes.as_mut_slice())? < bytes.len() {
-            return Ok(Next::End);
+    }
+
+    // Whether this block, which is next, was not written whole: where it stands last, and has zeros in the place of its last
+    // bytes.
+    fn is_torn(&self, kind: BlockKind, bytes: &[u8]) -> Result<bool, Fault>
+        ensures { IfOk result (λ is. IsTrue is → AreZeros (drop (length bytes.now - CHECKSUM_BYTES) bytes.now)) }
+    {
+        if !self.is_last(bytes.len())? || is_whole(self.alloc, kind, bytes)? {
+            return Ok(false);
         }
-        if self.is_last(bytes.len())? && !is_whole(self.alloc, header.kind, bytes.as_slice())? {
-            let start = bytes.len().saturating_sub(CHECKSUM_BYTES);
-            return self.after_bytes(&bytes.as_slice()[start..]);
-        }
-        Ok(Next::Block(header.kind))
+        let start = bytes.len().saturating_sub(CHECKSUM_BYTES);
+        Ok(are_zeros(&bytes[start..]))
     }
 
     // Whether nothing stands after the block that is next, which has so many bytes.
@@ -326,34 +351,10 @@ impl<'a> JournalFile<'a> {
         Ok(before.saturating_add(len as u64) >= self.len()?)
     }
 
-    // What is next where these bytes are no part of a block: where they and all bytes after them are zeros, the system
-    // wrote the length of the file, and not yet its bytes.
-    fn after_bytes(&mut self, bytes: &[u8]) -> Result<Next, Fault> {
-        if are_zeros(bytes) && self.is_zero_on()? {
-            Ok(Next::End)
-        } else {
-            Ok(Next::Damaged)
-        }
-    }
-
-    // Whether nothing but zeros stands from here to the end of the file.
-    fn is_zero_on(&mut self) -> Result<bool, Fault> {
-        let mut chunk = Vec::new(self.alloc);
-        chunk.resize(CHUNK_BYTES, 0).map_err(Fault::Memory)?;
-        for _ in 0..u64::MAX {
-            let len = self.read(chunk.as_mut_slice())?;
-            if len == 0 {
-                break;
-            }
-            if !are_zeros(&chunk.as_slice()[..len]) {
-                return Ok(false);
-            }
-        }
-        Ok(true)
-    }
-
     /// The fault of an entry.
-    pub(crate) fn broken(&self, broken: BrokenEntry) -> Fault {
+    pub(crate) fn broken(&self, broken: BrokenEntry) -> Fault
+        ensures { status_of result ≡ 3 }
+    {
         let BrokenEntry {
             entry,
             offset,
@@ -406,6 +407,8 @@ impl<'a> JournalFile<'a> {
     // Appends a block with lines of a description.
     fn put_lines<R: Files>(&mut self, rt: &R, kind: BlockKind, lines: &[u8]) -> Result<(), Fault>
         requires { length lines.now + CHECKSUM_BYTES ≤ MOST_BLOCK_BYTES }
+        ensures written { OnOk result (Grows (F.contents self.old.file) (block_text self.old.next (record { kind = kind; bytes = checked lines.now })) (F.contents self.new.file)) }
+        ensures next { OnOk result (self.new.next ≡ capped (self.old.next + 1)) }
     {
         let len = lines.len() + CHECKSUM_BYTES;
         let mut out = Output::new(self.alloc, BLOCK_HEADER_BYTES + len)?;
@@ -445,7 +448,10 @@ impl<'a> JournalFile<'a> {
     }
 
     // Appends bytes, and has them on disk, with the name of the file.
-    fn write<R: Files>(&mut self, rt: &R, bytes: &[u8]) -> io::Result<()> {
+    fn write<R: Files>(&mut self, rt: &R, bytes: &[u8]) -> io::Result<()>
+        ensures written { OnOk result (Grows (F.contents self.old.file) bytes.now (F.contents self.new.file)) }
+        ensures rest { self.new ≡ record self.old { file = self.new.file } }
+    {
         self.file.write_all(bytes)?;
         self.file.sync_all()?;
         sync_directory(rt, self.name)
@@ -453,7 +459,8 @@ impl<'a> JournalFile<'a> {
 
     /// Cuts all that stands after the blocks that were read. `CannotWrite` where the system refuses that, `Memory`.
     pub(crate) fn cut(&mut self) -> Result<(), Fault> {
-        self.set_len(self.end)
+        let end = self.end;
+        self.set_len(end)
     }
 
     fn set_len(&self, len: u64) -> Result<(), Fault> {
@@ -463,30 +470,17 @@ impl<'a> JournalFile<'a> {
         }
     }
 
-    /// The journal itself, still locked, to which blocks are appended from now on.
-    /// `Memory`.
-    pub(crate) fn into_journal<R>(
-        self,
-        rt: &R,
-        syncing: Syncing,
-    ) -> Result<FileJournal<'_, R, File>, AllocError> {
-        let JournalFile {
-            alloc,
-            file,
-            end,
-            next,
-            ..
-        } = self;
-        FileJournal::new(rt, alloc, file, syncing, end, next)
-    }
-
     /// How many entries the blocks have that were read.
-    pub(crate) fn entries(&self) -> u64 {
+    pub(crate) fn entries(&self) -> u64
+        ensures { result ≡ self.now.entries }
+    {
         self.entries
     }
 
     /// Where the last block ends that was read; where none was, the head.
-    pub(crate) fn end(&self) -> u64 {
+    pub(crate) fn end(&self) -> u64
+        ensures { result ≡ self.now.end }
+    {
         self.end
     }
 
@@ -496,8 +490,17 @@ impl<'a> JournalFile<'a> {
     }
 
     /// A fault of it.
-    pub(crate) fn fault(&self, fault: JournalFault) -> Fault {
+    pub(crate) fn fault(&self, fault: JournalFault) -> Fault
+        ensures { status_of result ≡ 3 }
+    {
         Fault::of_journal(self.alloc, self.name, fault)
+    }
+
+    fn not_read(&self, fault: ReadFault) -> Fault {
+        match fault {
+            ReadFault::System(error) => self.cannot_read(error),
+            ReadFault::Memory(error) => Fault::Memory(error),
+        }
     }
 
     fn cannot_read(&self, error: io::Error) -> Fault {
@@ -506,6 +509,27 @@ impl<'a> JournalFile<'a> {
 
     fn cannot_write(&self, error: io::Error) -> Fault {
         cannot_write(self.alloc, self.name, error)
+    }
+}
+
+// The entry after so many, as damaged, at this offset.
+fn damaged_entry(entries: u64, offset: u64) -> BrokenEntry
+    ensures { result ≡ damaged_at entries offset }
+{
+    BrokenEntry {
+        entry: entries.saturating_add(1),
+        offset,
+        fault: RecoveryFault::BadEntry,
+    }
+}
+
+// Has the lines of exports taken. Whether their checksum is right, and they are such lines.
+fn hand_on_exports<E: EntryReader>(bytes: &[u8], entries: &mut E) -> Result<bool, Fault>
+    ensures { IfOk result (λ is. IsTrue is → TakesBlock (AllTaken E.entries_taken E.rest) E.exports_taken BlockKind.Exports bytes.now entries.old entries.new) }
+{
+    match decode_lines(bytes) {
+        Some(lines) => entries.take_exports(lines),
+        None => Ok(false),
     }
 }
 
@@ -521,13 +545,6 @@ fn is_whole(alloc: Global, kind: BlockKind, bytes: &[u8]) -> Result<bool, Fault>
     }
 }
 
-// Whether a block with this header may stand where its number says, and be so long.
-fn is_allowed(header: BlockHeader) -> bool {
-    let BlockHeader { kind, number, len } = header;
-    let is_placed = kind != BlockKind::Description || number == DESCRIPTION_NUMBER;
-    is_placed && len as usize <= kind.most_bytes()
-}
-
 // Whether these are entries, and nothing else. `Memory`.
 fn are_entries(alloc: Global, bytes: &[u8]) -> Result<bool, Fault> {
     let mut scan = Scan::new(alloc, 0);
@@ -538,12 +555,8 @@ fn are_entries(alloc: Global, bytes: &[u8]) -> Result<bool, Fault> {
     }
 }
 
-fn are_zeros(bytes: &[u8]) -> bool {
-    bytes.iter().all(|byte| *byte == 0)
-}
-
 // Cuts a file, or makes it longer, and has that on disk.
-fn set_len(file: &File, len: u64) -> io::Result<()> {
+fn set_len<F: OpenFile>(file: &F, len: u64) -> io::Result<()> {
     file.set_len(len)?;
     file.sync_all()
 }

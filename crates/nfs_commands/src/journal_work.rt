@@ -1,4 +1,6 @@
 //! `nfs3d journal`, and a journal that is run again.
+ghost use Rattle.std.specs.Prelude.{◌≡◌};
+ghost use Rattle.nfs_journal.specs.Scanning.{Scans};
 
 use crate::journal_file::{EntryReader, JournalFile};
 use crate::key::key_of;
@@ -81,7 +83,7 @@ where
 }
 
 // The head of a journal that has one.
-fn head_of(file: &mut JournalFile<'_>) -> Result<Head, Fault> {
+fn head_of(file: &mut JournalFile<'_, File>) -> Result<Head, Fault> {
     file.len()?;
     match file.head()? {
         Some(head) => Ok(head),
@@ -90,6 +92,14 @@ fn head_of(file: &mut JournalFile<'_>) -> Result<Head, Fault> {
 }
 
 impl EntryReader for Scan {
+    ghost entries_taken = { λ old bytes new. Scans bytes old new };
+
+    ghost exports_taken = { λ old lines new. new ≡ old };
+
+    ghost count = { λ s. s.entries };
+
+    ghost rest = { λ s. s.unfinished };
+
     fn take_exports(&mut self, _text: &[u8]) -> Result<bool, Fault> {
         Ok(true)
     }

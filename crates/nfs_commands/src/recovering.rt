@@ -1,4 +1,9 @@
 //! A server becomes again what it was, by its journal.
+ghost use Rattle.std.specs.Prelude.{◌≡◌, Ok};
+ghost use Rattle.nfs_journal.specs.Recovering.{Advances};
+ghost use Rattle.nfs_load.specs.Descriptions.{Describes};
+ghost use Rattle.nfs_load.specs.declared.loaded.Loaded.{Loaded as Read};
+ghost use Rattle.nfs_server.specs.Fits.{with_exports};
 
 use crate::journal_file::{EntryReader, JournalFile};
 use crate::life_text::LifeText;
@@ -14,6 +19,7 @@ use nfs_source::description::Life;
 use nfs_source::fault::Fault;
 use nfs_source::journal_fault::JournalFault;
 use std::alloc::{AllocError, Global};
+use std::fs::File;
 use std::time::{Clock, Instant};
 
 /// A server that has run its journal again.
@@ -36,7 +42,7 @@ pub(crate) struct Recovered {
 pub(crate) fn recover<R: Eprint + Clock>(
     rt: &R,
     alloc: Global,
-    file: &mut JournalFile<'_>,
+    file: &mut JournalFile<'_, File>,
     head: Head,
     life: Life,
     text: &LifeText,
@@ -71,7 +77,7 @@ fn fault_of_life(head: Head, key: [u8; 8], text: &LifeText) -> Option<JournalFau
 // That fault, with the first line that differs where the journal has the description that it began with.
 fn with_lines(
     alloc: Global,
-    file: &mut JournalFile<'_>,
+    file: &mut JournalFile<'_, File>,
     fault: JournalFault,
     text: &LifeText,
 ) -> Result<JournalFault, Fault> {
@@ -92,7 +98,7 @@ fn with_lines(
 fn rerun<R: Eprint + Clock>(
     rt: &R,
     alloc: Global,
-    file: &mut JournalFile<'_>,
+    file: &mut JournalFile<'_, File>,
     server: &mut Server,
 ) -> Result<(u64, Vec<u8>), Fault> {
     let mut rerunning = Rerunning {
@@ -134,6 +140,15 @@ struct Rerunning<'a, R> {
 }
 
 impl<R: Eprint + Clock> EntryReader for Rerunning<'_, R> {
+    ghost entries_taken = { λ old bytes new. Advances bytes old.recovery new.recovery old.server.now new.server.now };
+
+    ghost exports_taken = { λ old lines new. (loaded : Read) × Describes lines (Ok loaded)
+        × (new.server.now ≡ with_exports loaded.table old.server.now) × (new.recovery ≡ old.recovery) };
+
+    ghost count = { λ it. it.recovery.entries };
+
+    ghost rest = { λ it. it.recovery.unfinished };
+
     fn take_exports(&mut self, text: &[u8]) -> Result<bool, Fault> {
         let Loaded { table, .. } = match load(self.alloc, text) {
             Ok(loaded) => loaded,
@@ -168,7 +183,9 @@ impl<R: Eprint + Clock> EntryReader for Rerunning<'_, R> {
 
 impl<R: Eprint + Clock> Rerunning<'_, R> {
     // Reports once a second how far it is.
-    fn report(&mut self) {
+    fn report(&mut self)
+        ensures { self.new ≡ record self.old { reported = self.new.reported } }
+    {
         let Some(began) = self.began else {
             return;
         };
