@@ -517,7 +517,7 @@ good=0
 for change in "$at 1" "$at 128" "$((at + 3)) 1"; do
     cp "$whole" "$file" && spoil "$file" "${change% *}" "${change#* }"
     starts "$work/tree" "$file"
-    { is_damaged || is_refused_by "entry $middle at offset $((at - 20)) is damaged: "; } && good=$((good + 1))
+    is_damaged && good=$((good + 1))
 done
 [ "$good" = 3 ]
 ok $? "or its record mark"
@@ -569,7 +569,7 @@ is_refused_by "entry 19 at offset $(place offset 'entry 19' "$work/three") is da
 ok $? "the second entry of a block of three"
 cp "$whole" "$file" && spoil "$file" $(($(size "$whole") - 1))
 starts "$work/tree" "$file"
-is_refused_by "entry $(entries "$whole") at offset $(place offset "entry $(entries "$whole")" "$whole") is damaged: " || is_refused_by "entry $(entries "$whole") at offset $(place offset "block $last" "$whole") is damaged: "
+is_refused_by "entry $(entries "$whole") at offset $(place offset "entry $(entries "$whole")" "$whole") is damaged: "
 ok $? "the last byte of the last entry"
 cp "$whole" "$file" && spoil "$file" $((at + 60))
 run journal check "$file"

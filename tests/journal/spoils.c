@@ -9,8 +9,8 @@
  *   - refuse one that is cut within its first record;
  *   - run the entries of the blocks that are whole again, where it is cut anywhere else: exactly these. Where it is cut before the
  *     first block of entries, it may be refused;
- *   - refuse one with another byte, and say where: an entry by its number, and its place or that of its block, which is the
- *     entry that has the byte or stands before that one in its block. A last block that ends with a zero then may stand for one
+ *   - refuse one with another byte, and say where: the number and the place of the entry that has the byte; where no entry has it,
+ *     the number of the next entry and the place of the block. A last block that ends with a zero then may stand for one
  *     that was not written whole: the entries before it are run again. Where a description has the byte, behind the header of its
  *     block, all entries are.
  * As many run at once as there are processors. It prints how many places there were; what isn't so is reported, with status 1. */
@@ -160,10 +160,10 @@ static int is_right_change(const char *journal, size_t at) {
     unsigned char last = (unsigned char)(bytes[all - 1] + (at == all - 1));
     if (block == block_count - 1 && last == 0 && goes_on(within->before, within->offset, all)) return 1;
     if (within->kind == DESCRIPTION && at >= within->offset + HEADER) return goes_on(entry_count, all, all);
-    if (is_damaged_at(journal, within->before, within->offset)) return 1;
-    for (size_t i = within->before; i < within->before + within->entries && entries[i].offset <= at; i++)
-        if (is_damaged_at(journal, i, entries[i].offset) || is_damaged_at(journal, i, within->offset)) return 1;
-    return 0;
+    if (at < within->offset + HEADER || within->entries == 0) return is_damaged_at(journal, within->before, within->offset);
+    size_t damaged = within->before;
+    while (damaged + 1 < within->before + within->entries && entries[damaged + 1].offset <= at) damaged++;
+    return is_damaged_at(journal, damaged, entries[damaged].offset);
 }
 
 /* ---- places */
