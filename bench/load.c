@@ -10,9 +10,8 @@
  * call of missing is a LOOKUP of a name that isn't there, and one of denied a GETATTR of file 6: the root of
  * a volume that isn't exported here, which stands after bench/tree's own. With pages, file 6 is a directory
  * with more entries than a reply holds, whose names have 1 to 4 bytes. READs and WRITEs begin at the byte
- * that NFS3D_OFFSET says, 0 by default. The last works are on the directories of bench/names: LOOKUPs of their names in a wandering
- * order, and the first page of a READDIR or a READDIRPLUS; so is rename, which gives a name of the first of them another one and
- * back. */
+ * that NFS3D_OFFSET says, 0 by default. The last works and rename are on the directories of bench/names: LOOKUPs of their names in a wandering
+ * order, the first page of a READDIR or a READDIRPLUS, and a RENAME there and back. */
 #include <arpa/inet.h>
 #include <errno.h>
 #include <fcntl.h>

@@ -1,6 +1,6 @@
 /* Loads any NFS version 3 server over TCP, which it mounts first: peer NFS-PORT MOUNT-PORT PATH WORK CLIENTS CALLS, where
  * WORK is make (CREATE and REMOVE in turn) or write64 (WRITEs of 64 KiB, FILE_SYNC). Each client has one call under way. Each
- * reply's status is looked at. It prints the microseconds a call. The caller is user 0. */
+ * reply must have the status 0. It prints the microseconds a call. The caller is user 0. */
 #include <arpa/inet.h>
 #include <netinet/in.h>
 #include <netinet/tcp.h>
@@ -89,7 +89,7 @@ static void call(const char *what) {
 
 static Handle handle_at(size_t i) {
     Handle handle = {.size = at(i)};
-    if (handle.size > 64) fail("a handle that is none");
+    if (handle.size > 64) fail("a handle of more than 64 bytes");
     memcpy(handle.bytes, in + i + 4, handle.size);
     return handle;
 }
@@ -105,7 +105,7 @@ static Handle create(Handle dir, const char *name) {
     uint32_t settings[] = {0, 1, 0644, 0, 0, 0, 0, 0};
     for (size_t i = 0; i < sizeof settings / sizeof *settings; i++) number(settings[i]);
     call("CREATE");
-    if (at(28) != 1) fail("CREATE told no handle");
+    if (at(28) != 1) fail("CREATE returned no handle");
     return handle_at(32);
 }
 

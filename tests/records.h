@@ -1,5 +1,5 @@
-/* Records that a seed determines, as text of words and opaque data (RFC 4506). Whoever includes it says before how many bytes a
- * record has at most: MOST_RECORD. */
+/* Records made of XDR words and opaque data (RFC 4506), and numbers that a seed determines. Define MOST_RECORD, the most bytes
+ * of a record, before you include it. */
 #include <arpa/inet.h>
 #include <stdint.h>
 #include <string.h>
