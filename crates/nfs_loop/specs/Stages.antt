@@ -54,7 +54,7 @@ turned (passes ∷ earlier) = turned earlier
 turned (reloads exports ∷ earlier) = turned earlier
 turned (settles notes ∷ earlier) = turned earlier
 
--- Whoever has its turn and stays sleeps only where it is owed an event or room for lines: replies are pending that the link did not take; all that was received was taken, and the link reported that nothing more was there; or its next record is held, and so is the client, until the log is not full any more.
+-- Whoever has its turn and stays sleeps only where it is owed an event or room for lines: replies are pending; all that was received was taken, and the link reported that nothing more was there; or its next record is held, and so is the client, until the log is not full any more.
 abbrev pub Sleeps : {L : Type 0} → (L → Option (List ℕ)) → (L → ℕ → Came → L → Type 0) → Option Hold → Option (Seat L) → Type 0
 Sleeps incoming reports hold None = Unit {0}
 Sleeps incoming reports hold (Some seat) = (seat.client.channel.pending ≢ [])
@@ -92,7 +92,7 @@ abbrev pub IsUnheard : {L : Type 0} → (L → ℕ → Came → L → Type 0) �
 IsUnheard reports None = ⊥
 IsUnheard reports (Some seat) = (seat.client.channel.pending ≡ []) × (seat.client.chunk ≡ []) × IsQuiet reports seat.client.channel.link
 
--- Something was heard of a client in its turn: it is gone; it waits again, since more may have come; replies are pending that the link did not take; its next record is held; or the link brought fewer bytes than there was room for, and all were taken.
+-- Something was heard of a client in its turn: it is gone; it waits again, since more may have come; replies are pending; its next record is held; or the link brought fewer bytes than there was room for, and all were taken.
 abbrev pub IsHeard : {L : Type 0} → (L → Option (List ℕ)) → (L → ℕ → Came → L → Type 0) → Bool → Option Hold → Option (Seat L) → Type 0
 IsHeard incoming reports waits hold None = Unit {0}
 IsHeard incoming reports waits hold (Some seat) = (waits ≡ true)
