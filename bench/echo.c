@@ -1,7 +1,14 @@
 /* Answers each SIZE bytes by REPLY bytes, for any number of clients, over epoll: what a server of calls
- * of these sizes costs that does nothing else: echo SIZE REPLY [keep | SIZE REPLY]. With a second size, a client's calls have
- * the one and the other in turn. It prints its port. With `keep` it copies what comes twice, as a server of WRITEs
- * has to that keeps its replies: over the bytes of a file, and into the next of 128 records. */
+ * of these sizes costs that does nothing else: echo SIZE REPLY [keep | read | list | plus | SIZE REPLY]. With a second size, a
+ * client's calls have the one and the other in turn. It prints its port. With a word it does what any server of such calls has to:
+ *
+ * keep  copies what comes twice, as a server of WRITEs that caches its replies: over the bytes of a file, and into the next of 128
+ *       records
+ * read  copies each reply from a file, as a server of READs
+ * list  writes each reply as a server of READDIRs: the entries of a directory
+ * plus  writes each reply as a server of READDIRPLUSes: the entries with their files' attributes and handles
+ *
+ * Replies that are written so gather until MADE bytes are pending, and one client alone can have them. */
 #define _GNU_SOURCE
 #include <errno.h>
 #include <fcntl.h>
@@ -13,41 +20,114 @@
 #include <sys/epoll.h>
 #include <sys/socket.h>
 #include <unistd.h>
+#include "entries.h"
 #include "listening.h"
 
-enum { PEERS = 4096, PIECE = 65536, BATCH = 262144, FILE_BYTES = 65536, KEPT = 128 };
+enum { PEERS = 4096, PIECE = 65536, BATCH = 524288, MADE = 262144, KEPT = 128, NAMES = 1000, NAME = 7 };
+
+/* Before what is written, a reply has the record mark, the head of an accepted reply, the status and attributes; a READ's then has
+ * two numbers and the length. */
+enum { REPLY_HEAD = 28 + 4, READ_HEAD = REPLY_HEAD + 88 + 12 };
 
 typedef struct {
-    size_t in, owed;
+    size_t in, owed;           /* bytes that came of the next call, and of replies that are pending */
+    size_t calls, sent;        /* for how many calls no reply is written yet, and how much of the batch went out */
     int turn;                  /* which size the next call has */
 } Client;
 
 static Client all[PEERS];
-static unsigned char piece[PIECE], batch[BATCH], file[FILE_BYTES], *kept[KEPT];
+static unsigned char piece[PIECE], batch[BATCH], file[BATCH], *kept[KEPT];
+static struct entry entries[NAMES + 2];
+static size_t size[2] = {44, 44}, reply[2] = {28, 28};
+static const char *work = "";
 
-/* Copies some bytes to the file and to the records, each from where the last bytes ended. */
-static void keep(size_t size, const unsigned char *bytes, size_t len) {
-    static size_t written, recorded;
+static int works(const char *word) { return strcmp(work, word) == 0; }
+
+/* Copies some bytes to the file and to the records, each from where the last bytes ended; the file has as many as a call. */
+static void keep(const unsigned char *bytes, size_t len) {
+    static size_t at, record;
     while (len > 0) {
-        size_t in_file = FILE_BYTES - written, in_record = size - recorded % size, n = len < in_file ? len : in_file;
-        n = n < in_record ? n : in_record;
-        memcpy(file + written, bytes, n);
-        memcpy(kept[recorded / size] + recorded % size, bytes, n);
-        written = (written + n) % FILE_BYTES;
-        recorded = (recorded + n) % (KEPT * size);
-        bytes += n, len -= n;
+        size_t left = size[0] - at, n = len < left ? len : left;
+        memcpy(file + at, bytes, n);
+        memcpy(kept[record] + at, bytes, n);
+        bytes += n, len -= n, at += n;
+        if (at == size[0]) at = 0, record = (record + 1) % KEPT;
+    }
+}
+
+/* The entries of a directory, with their names and attributes allocated one after another, as by a server that is given its files. */
+static void make_entries(void) {
+    for (uint32_t i = 0; i < NAMES + 2; i++) {
+        char *name = malloc(NAME + 1);
+        struct attributes *a = malloc(sizeof *a);
+        if (!name || !a) exit(1);
+        snprintf(name, NAME + 1, i == 0 ? "." : i == 1 ? ".." : "n%06u", i - 2);
+        *a = (struct attributes){.type = 1, .mode = 0666, .nlink = 1, .fsid = 1, .fileid = i + 1};
+        entries[i] = (struct entry){i + 1, i + 1, (uint32_t)strlen(name), name, a};
+    }
+}
+
+/* Counts the calls that these bytes end. Their replies are pending at once, unless they are to be written. */
+static void take(Client *c, size_t got, int made) {
+    for (c->in += got; c->in >= size[c->turn]; c->turn = !c->turn) {
+        c->in -= size[c->turn];
+        if (made) c->calls++;
+        else c->owed += reply[c->turn];
+    }
+}
+
+/* Writes the replies to some calls. Whether there are some. */
+static int answer(Client *c) {
+    for (c->sent = 0; c->calls > 0 && c->owed < MADE; c->calls--, c->owed += reply[0]) {
+        unsigned char *out = batch + c->owed;
+        if (works("read")) memcpy(out + READ_HEAD, file, reply[0] - READ_HEAD);
+        else page(out + REPLY_HEAD + PAGE_HEAD - 8, entries, NAMES + 2, reply[0] - REPLY_HEAD, works("plus") ? FILE_BYTES : 0);
+    }
+    return c->owed > 0;
+}
+
+/* Sends what is pending. Whether all of it went out. */
+static int send_owed(int peer, Client *c, int made) {
+    while (c->owed > 0) {
+        size_t n = c->owed < BATCH ? c->owed : BATCH;
+        ssize_t put = send(peer, batch + c->sent, n, MSG_NOSIGNAL);
+        if (put <= 0) return 0;
+        c->owed -= (size_t)put;
+        if (made) c->sent += (size_t)put;
+    }
+    return 1;
+}
+
+/* Gives a client its turn. */
+static void serve(int peer, Client *c, int made) {
+    for (int drained = 0;;) {
+        do {
+            if (!send_owed(peer, c, made)) return;
+        } while (answer(c));
+        if (drained) return;
+        ssize_t got = recv(peer, piece, PIECE, 0);
+        if (got < 0 && errno == EAGAIN) return;
+        if (got <= 0) {
+            close(peer);
+            return;
+        }
+        if (works("keep")) keep(piece, (size_t)got);
+        take(c, (size_t)got, made);
+        drained = got < PIECE;
     }
 }
 
 int main(int count, char **w) {
-    size_t size[2] = {44, 44}, reply[2] = {28, 28};
-    int keeps = count == 4 && strcmp(w[3], "keep") == 0;
     for (int i = 0; count > 2 && i < 2; i++) {
         int at = count > 4 ? 1 + 2 * i : 1;
         size[i] = strtoul(w[at], NULL, 10), reply[i] = strtoul(w[at + 1], NULL, 10);
     }
-    for (int i = 0; keeps && i < KEPT; i++)
+    if (count == 4) work = w[3];
+    int made = works("read") || works("list") || works("plus");
+    for (int i = 0; works("keep") && i < KEPT; i++)
         if (!(kept[i] = calloc(1, size[0]))) return 1;
+    make_entries();
+    memset(file, 1, sizeof file);
     int listener = listening(), poll = epoll_create1(0);
     struct epoll_event e = {.events = EPOLLIN, .data.u32 = 0};
     epoll_ctl(poll, EPOLL_CTL_ADD, listener, &e);
@@ -56,32 +136,15 @@ int main(int count, char **w) {
         int n = epoll_wait(poll, events, 256, -1);
         for (int i = 0; i < n; i++) {
             int peer = (int)events[i].data.u32, yes = 1;
-            if (peer == 0) {
-                while ((peer = accept4(listener, 0, 0, SOCK_NONBLOCK)) >= 0) {
-                    setsockopt(peer, IPPROTO_TCP, TCP_NODELAY, &yes, sizeof yes);
-                    all[peer] = (Client){0};
-                    e.events = EPOLLIN | EPOLLOUT | EPOLLET, e.data.u32 = (uint32_t)peer;
-                    epoll_ctl(poll, EPOLL_CTL_ADD, peer, &e);
-                }
+            if (peer != 0) {
+                serve(peer, all + peer, made);
                 continue;
             }
-            Client *c = all + peer;
-            for (int drained = 0;;) {
-                while (c->owed > 0) {
-                    ssize_t put = send(peer, batch, c->owed < BATCH ? c->owed : BATCH, MSG_NOSIGNAL);
-                    if (put <= 0) break;
-                    c->owed -= (size_t)put;
-                }
-                if (c->owed > 0 || drained) break;
-                ssize_t got = recv(peer, piece, PIECE, 0);
-                if (got < 0 && errno == EAGAIN) break;
-                if (got <= 0) {
-                    close(peer);
-                    break;
-                }
-                if (keeps) keep(size[0], piece, (size_t)got);
-                for (c->in += (size_t)got; c->in >= size[c->turn]; c->turn = !c->turn) c->in -= size[c->turn], c->owed += reply[c->turn];
-                drained = got < PIECE;
+            while ((peer = accept4(listener, 0, 0, SOCK_NONBLOCK)) >= 0) {
+                setsockopt(peer, IPPROTO_TCP, TCP_NODELAY, &yes, sizeof yes);
+                all[peer] = (Client){0};
+                e.events = EPOLLIN | EPOLLOUT | EPOLLET, e.data.u32 = (uint32_t)peer;
+                epoll_ctl(poll, EPOLL_CTL_ADD, peer, &e);
             }
         }
     }
