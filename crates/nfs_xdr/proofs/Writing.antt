@@ -1,10 +1,10 @@
 -- What is written, one item after another, is an encoding.
-use Rattle.std.proofs.Common.{◌≡◌, ℕ, ◌^◌, ◌<◌, ◌≤◌, ◌+◌, ◌-◌, List, [], ◌++◌, length, take, drop, Option, Some, None, refl, ap, sym, subst, ◌∙◌, append_assoc, arith}
+use Rattle.std.proofs.Common.{◌≡◌, ℕ, ◌^◌, ◌<◌, ◌≤◌, ◌+◌, ◌-◌, List, [], ◌++◌, length, take, drop, Option, Some, None, refl, ap, sym, subst, ◌∙◌, append_assoc, zero, suc, ◌∷◌, arith}
 use Rattle.std.proofs.lemmas.Grind.{common_steps}
 use Rattle.std.specs.Int.{Width, w32, byte_len, to_be_bytes}
-use Rattle.std.proofs.lemmas.List.{length-append, drop-take}
-use Rattle.std.proofs.Math.Seq.{take-append-add}
-use Rattle.nfs_xdr.specs.Encoding.{IsNumber, IsOptional, ◌⨾◌, optional_text}
+use Rattle.std.proofs.lemmas.List.{length-append, drop-take, drop-append-le}
+use Rattle.std.proofs.Math.Seq.{take-append-add, drop-append-add}
+use Rattle.nfs_xdr.specs.Encoding.{IsNumber, IsOptional, ◌⨾◌, optional_text, fixed_text, padding}
 use Rattle.nfs_xdr.specs.Written.{Written, Appends}
 
 -- two texts, one after the other
@@ -50,3 +50,60 @@ put_over_seen at len kept item all seen after same put counted inside whole =
     let nothing : drop (length after) all ≡ [] = grind (arith, common_steps, length_is) in
     let again : take kept (after ++ drop (length after) all) ≡ after = grind (arith, common_steps, nothing, counted, length_is) in
     ap (take len) (again ∙ put_in) ∙ put_over at len item all inside whole
+
+abbrev four_zeros : List ℕ
+four_zeros = 0 ∷ 0 ∷ 0 ∷ 0 ∷ []
+
+-- of four zeros the last so many are the padding
+zeros_last : (p : ℕ) → p < 4 → drop (4 - p) four_zeros ≡ take p (0 ∷ 0 ∷ 0 ∷ [])
+zeros_last zero below = refl
+zeros_last (suc zero) below = refl
+zeros_last (suc (suc zero)) below = refl
+zeros_last (suc (suc (suc zero))) below = refl
+zeros_last (suc (suc (suc (suc p)))) below = absurd (omega (arith, below))
+
+append_regroup : (a b c d : List ℕ) → a ++ b ++ (c ++ d) ≡ a ++ (b ++ c) ++ d
+append_regroup a b c d = sym (append_assoc (a ++ b) c d) ∙ ap (λ t. t ++ d) (append_assoc a b c)
+
+-- four zeros put over others, and then bytes over what comes before their padding
+after_zeros : (at n pad start : ℕ) (front zeros rest padded : List ℕ) → length front ≡ start → length zeros ≡ 4 → pad < 4 → start + 4 ≡ at + n + pad
+    → drop (4 - pad) zeros ≡ padded → drop (at + n) (front ++ zeros ++ rest) ≡ padded ++ rest
+after_zeros at n pad start front zeros rest padded counted four few ends last =
+    let within : length front + (4 - pad) ≡ at + n = omega (arith, counted, few, ends) in
+    let skipped : drop (length front + (4 - pad)) (front ++ (zeros ++ rest)) ≡ drop (4 - pad) (zeros ++ rest) = drop-append-add front (zeros ++ rest) (4 - pad) in
+    let left : drop (4 - pad) (zeros ++ rest) ≡ drop (4 - pad) zeros ++ rest = drop-append-le (4 - pad) zeros rest (omega (arith, four)) in
+    subst (λ k. drop k (front ++ zeros ++ rest) ≡ padded ++ rest) within
+    (ap (drop (length front + (4 - pad))) (append_assoc front zeros rest) ∙ skipped ∙ left ∙ ap (λ t. t ++ rest) last)
+
+padded_over : (at n pad start : ℕ) (item all : List ℕ) → pad < 4 → at ≤ start → start + 4 ≡ at + n + pad → start + 4 ≤ length all
+    → take at (take start all ++ four_zeros ++ drop (start + 4) all) ++ item ++ drop (at + n) (take start all ++ four_zeros ++ drop (start + 4) all)
+    ≡ take at all ++ (item ++ take pad (0 ∷ 0 ∷ 0 ∷ [])) ++ drop (at + n + pad) all
+padded_over at n pad start item all few from ends inside =
+    let front : length (take start all) ≡ start = grind (arith, common_steps, inside) in
+    let begins : take at (take start all ++ four_zeros ++ drop (start + 4) all) ≡ take at all = grind (arith, common_steps, from, inside) in
+    let rest : drop (at + n) (take start all ++ four_zeros ++ drop (start + 4) all) ≡ take pad (0 ∷ 0 ∷ 0 ∷ []) ++ drop (at + n + pad) all =
+    after_zeros at n pad start (take start all) four_zeros (drop (start + 4) all) (take pad (0 ∷ 0 ∷ 0 ∷ [])) front refl few ends (zeros_last pad few)
+    ∙ ap (λ k. take pad (0 ∷ 0 ∷ 0 ∷ []) ++ drop k all) ends in
+    ap (λ s. s ++ item ++ drop (at + n) (take start all ++ four_zeros ++ drop (start + 4) all)) begins ∙ ap (λ t. take at all ++ item ++ t) rest
+    ∙ append_regroup (take at all) item (take pad (0 ∷ 0 ∷ 0 ∷ [])) (drop (at + n + pad) all)
+
+with_padding : (at : ℕ) (item : List ℕ) → at + length item + padding (length item) ≡ at + length (fixed_text item)
+with_padding at item = grind (arith, common_steps)
+
+-- the same, where the bytes are some
+pub put_padded_over : (at : ℕ) (item all mid after : List ℕ) → 0 < length item → at + length (fixed_text item) ≤ length all
+    → mid ≡ take (at + length item + padding (length item) - 4) all ++ four_zeros ++ drop (at + length item + padding (length item) - 4 + 4) all
+    → after ≡ take at mid ++ item ++ drop (at + length item) mid
+    → after ≡ take at all ++ fixed_text item ++ drop (at + length (fixed_text item)) all
+put_padded_over at item all mid after some inside first second =
+    let start = at + length item + padding (length item) - 4 in
+    let from : at ≤ start = omega (arith, some) in
+    second ∙ ap (λ m. take at m ++ item ++ drop (at + length item) m) first
+    ∙ padded_over at (length item) (padding (length item)) start item all (omega arith) from (omega (arith, from)) (omega (arith, from, inside, with_padding at item))
+    ∙ ap (λ k. take at all ++ fixed_text item ++ drop k all) (with_padding at item)
+
+-- no bytes have no padding
+pub put_none_over : (at : ℕ) (item all after : List ℕ) → length item ≡ 0 → after ≡ take at all ++ item ++ drop (at + length item) all
+    → after ≡ take at all ++ fixed_text item ++ drop (at + length (fixed_text item)) all
+put_none_over at [] all after none put = put
+put_none_over at (byte ∷ item) all after none put = absurd (omega (arith, none))

@@ -105,8 +105,9 @@ impl Output {
         requires { length (fixed_text item.now) ≤ self.old.room }
         ensures { Appends (fixed_text item.now) self.old self.new }
     {
-        self.part(item);
-        self.pad(item.len());
+        let len = self.len + item.len() + padding_of(item.len());
+        put_padded(self.all.as_mut_slice(), self.len, item);
+        self.len = len;
     }
 
     /// Writes bytes as they are: a part of an item whose parts lie in different places.
@@ -127,7 +128,7 @@ impl Output {
         ensures { Appends (pad_text len) self.old self.new }
     {
         let zeros = [0u8; 3];
-        let padding = (4 - len % 4) % 4;
+        let padding = padding_of(len);
         if padding > 0 {
             self.part(&zeros[..padding]);
         }
@@ -192,6 +193,30 @@ fn put_over(place: &mut [u8], at: usize, bytes: &[u8])
     ensures { place.new ≡ take at place.old ++ bytes.now ++ drop (at + length bytes.now) place.old }
 {
     place[at..at + bytes.len()].copy_from_slice(bytes);
+}
+
+// Puts bytes over as many others, and zeros as their padding over those that follow. The last four of all these are zeros
+// first, since a word is written faster than one to three bytes.
+#[inline(always)]
+fn put_padded(place: &mut [u8], at: usize, bytes: &[u8])
+    requires { at + length (fixed_text bytes.now) ≤ length place.old }
+    ensures { place.new ≡ take at place.old ++ fixed_text bytes.now ++ drop (at + length (fixed_text bytes.now)) place.old }
+{
+    if !bytes.is_empty() {
+        put_over(
+            place,
+            at + bytes.len() + padding_of(bytes.len()) - 4,
+            &[0; 4],
+        );
+    }
+    put_over(place, at, bytes);
+}
+
+#[inline(always)]
+fn padding_of(len: usize) -> usize
+    ensures { result ≡ padding len }
+{
+    (4 - len % 4) % 4
 }
 
 #[inline(always)]
