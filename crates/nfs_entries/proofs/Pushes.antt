@@ -20,7 +20,7 @@ listed_same old new [] each = refl
 listed_same old new (p ∷ ps) each =
     ap (λ o. cons_option o (listed new ps)) (each p (in_head p ps)) ∙ ap (cons_option (standing old p)) (listed_same old new ps (λ q there. each q (in_tail p q ps there)))
 
-module _ (rows : List Row) (ps : List EntryPosition) (r : Row) (kept : IsKept rows ps r.1.cookie) (absent : HasNo rows r.0.items) where
+module _ (rows : List Row) (ps : List EntryPosition) (r : Row) (kept : IsKept rows ps r.1.cookie) (absent : HasNo rows r.0) where
   abbrev more : List Row
   more = rows ++ r ∷ []
 
@@ -46,8 +46,8 @@ module _ (rows : List Row) (ps : List EntryPosition) (r : Row) (kept : IsKept ro
   is_new i s same at_i = same_some (sym (push_last rows r) ∙ ap (slice_get more) (sym same) ∙ at_i)
 
   -- no row that was there has the name
-  differs : (i : ℕ) (s : Row) → slice_get rows i ≡ Some s → r.0.items ≡ s.0.items → ⊥
-  differs i s at_i same = true_and_false ((bytes_eq-Decides s.0.items r.0.items).1 (sym same)) (absent i s at_i)
+  differs : (i : ℕ) (s : Row) → slice_get rows i ≡ Some s → r.0 ≡ s.0 → ⊥
+  differs i s at_i same = true_and_false ((bytes_eq-Decides s.0 r.0).1 (sym same)) (absent i s at_i)
 
   pub kept_more : IsKept more (ps ++ at ∷ []) (suc r.1.cookie)
   kept_more = record {
@@ -58,9 +58,9 @@ module _ (rows : List Row) (ps : List EntryPosition) (r : Row) (kept : IsKept ro
     apart = λ i j s t at_i at_j same. by_number i (length rows)
         (λ ii. by_number j (length rows)
         (λ jj. ii ∙ sym jj)
-        (λ jo. absurd (differs j t (was j t jo at_j) (ap (λ (r : Row). r.0.items) (is_new i s ii at_i) ∙ same))))
+        (λ jo. absurd (differs j t (was j t jo at_j) (ap (λ (r : Row). r.0) (is_new i s ii at_i) ∙ same))))
         (λ io. by_number j (length rows)
-        (λ jj. absurd (differs i s (was i s io at_i) (ap (λ (r : Row). r.0.items) (is_new j t jj at_j) ∙ sym same)))
+        (λ jj. absurd (differs i s (was i s io at_i) (ap (λ (r : Row). r.0) (is_new j t jj at_j) ∙ sym same)))
         (λ jo. kept.apart i j s t (was i s io at_i) (was j t jo at_j) same));
   }
 

@@ -106,7 +106,7 @@ goes old i d within =
       stay = λ j less other. take_get last _ j less ∙ set_other old i l j other;
     }
 
-module _ (name : List ℕ) (old new : List Row) (ps : List EntryPosition) (next i last : ℕ) (l r : Row) (kept : IsKept old ps next) (g : Goes old new i last l) (at_row : slice_get old i ≡ Some r) (named : bytes_eq r.0.items name ≡ true) where
+module _ (name : List ℕ) (old new : List Row) (ps : List EntryPosition) (next i last : ℕ) (l r : Row) (kept : IsKept old ps next) (g : Goes old new i last l) (at_row : slice_get old i ≡ Some r) (named : bytes_eq r.0 name ≡ true) where
   -- another row's entry isn't the one that goes
   pub stays : (p : EntryPosition) → (p.index ≡ i → ⊥) → dropped name (standing old p) ≡ standing old p
   stays p other = by (standing old p) refl
@@ -115,7 +115,7 @@ module _ (name : List ℕ) (old new : List Row) (ps : List EntryPosition) (next 
       by None is = refl
       by (Some e) is = by_test (has_name name e)
           (λ y. let s = stands old p e is in
-          absurd (other (kept.apart p.index i s.row r s.at_row at_row (ap (λ (e : Entry). e.name) s.shown ∙ (bytes_eq-Decides e.name name).0 y ∙ sym ((bytes_eq-Decides r.0.items name).0 named)))))
+          absurd (other (kept.apart p.index i s.row r s.at_row at_row (ap (λ (e : Entry). e.name) s.shown ∙ (bytes_eq-Decides e.name name).0 y ∙ sym ((bytes_eq-Decides r.0 name).0 named)))))
           (λ n. if_false None (Some e) n)
 
   pub stays_there : (p : EntryPosition) → (p.index ≡ i → ⊥) → slice_get new p.index ≡ slice_get old p.index → standing new p ≡ dropped name (standing old p)
@@ -201,7 +201,7 @@ module _ (name : List ℕ) (old new : List Row) (ps : List EntryPosition) (next 
           omega (arith, one, below)))))
           (contains_map (λ p. cond (nat_eq p.cookie l.1.cookie) (record { cookie = l.1.cookie; index = i }) p) ps (place_of s j) was))
 
-      apart : (j k : ℕ) (s t : Row) → slice_get new j ≡ Some s → slice_get new k ≡ Some t → s.0.items ≡ t.0.items → j ≡ k
+      apart : (j k : ℕ) (s t : Row) → slice_get new j ≡ Some s → slice_get new k ≡ Some t → s.0 ≡ t.0 → j ≡ k
       apart j k s t at_j at_k same = by_number j i
           (λ ji. by_number k i
           (λ ki. ji ∙ sym ki)

@@ -74,10 +74,10 @@ first_passes {X} p (x ∷ xs) = by_test (p x)
 
 -- names stand in one row each
 abbrev pub AreApart : List Row → Type 0
-AreApart rows = (i j : ℕ) (r s : Row) → slice_get rows i ≡ Some r → slice_get rows j ≡ Some s → r.0.items ≡ s.0.items → i ≡ j
+AreApart rows = (i j : ℕ) (r s : Row) → slice_get rows i ≡ Some r → slice_get rows j ≡ Some s → r.0 ≡ s.0 → i ≡ j
 
 -- a row whose place is there is what its name finds
-pub found_listed : (name : List ℕ) (rows : List Row) (ps : List EntryPosition) (i : ℕ) (r : Row) → AreApart rows → slice_get rows i ≡ Some r → bytes_eq r.0.items name ≡ true → Contains ps (place_of r i) → find (has_name name) (listed rows ps) ≡ Some (entry_of r)
+pub found_listed : (name : List ℕ) (rows : List Row) (ps : List EntryPosition) (i : ℕ) (r : Row) → AreApart rows → slice_get rows i ≡ Some r → bytes_eq r.0 name ≡ true → Contains ps (place_of r i) → find (has_name name) (listed rows ps) ≡ Some (entry_of r)
 found_listed name rows [] i r apart at named there = absurd (let within = there.1 in omega (arith, within))
 found_listed name rows (p ∷ ps) i r apart at named there = by (standing rows p) refl (places_after (found_listed name rows ps i r apart at named))
   where
@@ -97,14 +97,14 @@ found_listed name rows (p ∷ ps) i r apart at named there = by (standing rows p
     by None is ih = subst goal (sym is) (ih (λ same. not_both is (itself same)))
     by (Some e) is ih = by_test (bytes_eq e.name name)
         (λ y. let s = stands rows p e is in
-        let at_i = apart p.index i s.row r s.at_row at (ap (λ (e : Entry). e.name) s.shown ∙ (bytes_eq-Decides e.name name).0 y ∙ sym ((bytes_eq-Decides r.0.items name).0 named)) in
+        let at_i = apart p.index i s.row r s.at_row at (ap (λ (e : Entry). e.name) s.shown ∙ (bytes_eq-Decides e.name name).0 y ∙ sym ((bytes_eq-Decides r.0 name).0 named)) in
         let one : s.row ≡ r = same_some (sym s.at_row ∙ ap (slice_get rows) at_i ∙ at) in
         subst goal (sym is) (if_true (Some e) (find (has_name name) (listed rows ps)) y ∙ ap Some (sym s.shown ∙ ap entry_of one)))
         (λ n. subst goal (sym is) (if_false (Some e) (find (has_name name) (listed rows ps)) n
         ∙ ih (λ same. true_and_false (ap (λ (e : Entry). bytes_eq e.name name) (same_some (sym is ∙ itself same)) ∙ named) n)))
 
 -- a name that no row has finds none
-pub none_listed : (name : List ℕ) (rows : List Row) (ps : List EntryPosition) → ((i : ℕ) (r : Row) → slice_get rows i ≡ Some r → bytes_eq r.0.items name ≡ false) → find (has_name name) (listed rows ps) ≡ None
+pub none_listed : (name : List ℕ) (rows : List Row) (ps : List EntryPosition) → ((i : ℕ) (r : Row) → slice_get rows i ≡ Some r → bytes_eq r.0 name ≡ false) → find (has_name name) (listed rows ps) ≡ None
 none_listed name rows [] absent = refl
 none_listed name rows (p ∷ ps) absent = by (standing rows p) refl (none_listed name rows ps absent)
   where
@@ -127,7 +127,7 @@ none_number name rows ps absent = ap (option_map (λ (e : Entry). e.number)) (no
 
 -- where nothing is found, no row has the name
 pub absent_from : (name : List ℕ) (rows : List Row) (ps : List EntryPosition) (next : ℕ) → IsKept rows ps next → find (has_name name) (listed rows ps) ≡ None → HasNo rows name
-absent_from name rows ps next kept none i r at = by_test (bytes_eq r.0.items name)
+absent_from name rows ps next kept none i r at = by_test (bytes_eq r.0 name)
     (λ y. absurd (not_both none (found_listed name rows ps i r kept.apart at y (kept.placed i r at))))
     (λ n. n)
 
@@ -138,8 +138,8 @@ none_of (p ∷ ps) = none_of ps
 
 pub some_of : (rows : List Row) (ps : List EntryPosition) (next : ℕ) → IsKept rows ps next → listed rows ps ≡ [] → rows ≡ []
 some_of [] ps next kept none = refl
-some_of (r ∷ rows) ps next kept none = absurd (not_both (ap (find (has_name r.0.items)) none)
-    (found_listed r.0.items (r ∷ rows) ps 0 r kept.apart refl ((bytes_eq-Decides r.0.items r.0.items).1 refl) (kept.placed 0 r refl)))
+some_of (r ∷ rows) ps next kept none = absurd (not_both (ap (find (has_name r.0)) none)
+    (found_listed r.0 (r ∷ rows) ps 0 r kept.apart refl ((bytes_eq-Decides r.0 r.0).1 refl) (kept.placed 0 r refl)))
 
 pub none_long : (rows : List Row) → length rows ≡ 0 → rows ≡ []
 none_long [] e = refl

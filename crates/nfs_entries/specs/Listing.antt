@@ -1,8 +1,7 @@
 -- A directory's entries by rising cookie, and how they are kept.
 use Rattle.std.specs.Prelude.{◌≡◌, ◌⊎◌, ℕ, ◌+◌, ◌*◌, Bool, true, false, List, Option, None, Some, Contains, is_some, map, nat_eq, bytes_eq, slice_get, option_map, find, filter, nat_lt, not, cond}
 use Rattle.std.specs.List.{filter_map}
-use Rattle.std.specs.Prelude.{Vec, suc, [], ◌∷◌, ◌≤◌, length}
-use Rattle.std.specs.Global.{Global}
+use Rattle.std.specs.Prelude.{suc, [], ◌∷◌, ◌≤◌, length}
 use Rattle.nfs_entries.specs.declared.entry_data.EntryPosition.{EntryPosition}
 
 -- an entry as callers see it
@@ -42,12 +41,12 @@ pub record KeptValue : Type 0 where
   pub cookie : ℕ
   pub number : ℕ
 
--- a name as it is kept, with what is kept beside it
+-- a name, with what is kept beside it
 abbrev pub Row : Type 0
-Row = Vec ℕ Global × KeptValue
+Row = List ℕ × KeptValue
 
 abbrev pub entry_of : Row → Entry
-entry_of r = record { cookie = r.1.cookie; name = r.0.items; number = r.1.number }
+entry_of r = record { cookie = r.1.cookie; name = r.0; number = r.1.number }
 
 -- a row, if it has this cookie
 abbrev pub of_cookie : ℕ → Option Row → Option Entry
@@ -81,12 +80,12 @@ settled index (Some r) places = led r.1.cookie index places
 pub record IsRowOf (rows : List Row) (name : List ℕ) (index number : ℕ) : Type 0 where
   pub row : Row
   pub at_row : slice_get rows index ≡ Some row
-  pub named : bytes_eq row.0.items name ≡ true
+  pub named : bytes_eq row.0 name ≡ true
   pub number_is : number ≡ row.1.number
 
 -- no row has this name
 abbrev pub HasNo : List Row → List ℕ → Type 0
-HasNo rows name = (i : ℕ) (r : Row) → slice_get rows i ≡ Some r → bytes_eq r.0.items name ≡ false
+HasNo rows name = (i : ℕ) (r : Row) → slice_get rows i ≡ Some r → bytes_eq r.0 name ≡ false
 
 -- places stand by rising cookie, from the low one on and below the next one
 abbrev pub Rises : ℕ → List EntryPosition → ℕ → Type 0
@@ -97,7 +96,7 @@ Rises low (p ∷ ps) next = (low ≤ p.cookie) × Rises (suc p.cookie) ps next
 pub record IsKept (rows : List Row) (places : List EntryPosition) (next : ℕ) : Type 0 where
   pub rises : Rises 0 places next
   pub placed : (i : ℕ) (r : Row) → slice_get rows i ≡ Some r → Contains places (place_of r i)
-  pub apart : (i j : ℕ) (r s : Row) → slice_get rows i ≡ Some r → slice_get rows j ≡ Some s → r.0.items ≡ s.0.items → i ≡ j
+  pub apart : (i j : ℕ) (r s : Row) → slice_get rows i ≡ Some r → slice_get rows j ≡ Some s → r.0 ≡ s.0 → i ≡ j
 
 -- Memory that is kept: no place is dead, or half of the places, rounded down, are at most 16 more than the rows.
 abbrev pub AreFew : List Row → List EntryPosition → Type 0

@@ -1,5 +1,6 @@
 //! The entries of a directory: rows with an index of their names, and places by rising cookie that
-//! lead to them. An entry that goes leaves its place behind, dead; where half of them are, they go.
+//! lead to them. A name stands in its row, unless it is long. An entry that goes leaves its place
+//! behind, dead; where half of them are, they go.
 ghost use Rattle.std.specs.Prelude.{ℕ, IsTrue, ◌↔◌, ◌≡◌, ◌+◌, ◌<◌, ◌≤◌, ◌++◌, ◌∷◌, [], false, OnOk, OnErr, IfSome, IfNone, ◌⊎◌, None};
 ghost use Rattle.std.specs.Prelude.{nat_le, nat_lt, option_map, slice_get, filter, vec_len, vec_capacity, ◌^◌};
 ghost use Rattle.std.specs.Iterator.{YieldsFirstBy, item_count};
@@ -8,6 +9,7 @@ ghost use Rattle.nfs_entries.specs.Listing as spec;
 ghost use Rattle.nfs_entries.specs.Seen.{entry_seen, entries_left};
 
 use crate::entry_data::{EntryData, EntryPosition};
+use crate::entry_name::{EntryName, SoughtName};
 use indexmap::IndexMap;
 use nfs_handles::number::Number;
 use std::alloc::{AllocError, Global};
@@ -30,7 +32,7 @@ pub struct EntryView<'a> {
 /// The entries of a directory, by rising cookie. A name is found by the index.
 #[derive(Drop)]
 pub struct DirectoryEntries {
-    rows: IndexMap<Vec<u8>, EntryData>,
+    rows: IndexMap<EntryName, EntryData>,
     places: Vec<EntryPosition>,
     next: u64,
 }
@@ -133,7 +135,7 @@ impl DirectoryEntries {
         self.next += 1;
         let index = self.rows.len();
         self.rows
-            .insert(name, EntryData::new(cookie, number))
+            .insert(EntryName::new(name), EntryData::new(cookie, number))
             .unwrap();
         self.places.push(EntryPosition { cookie, index }).unwrap();
     }
@@ -157,7 +159,7 @@ impl DirectoryEntries {
 /// Gives entries in turn, by rising cookie.
 #[derive(Drop)]
 pub struct Entries<'a> {
-    rows: &'a IndexMap<Vec<u8>, EntryData>,
+    rows: &'a IndexMap<EntryName, EntryData>,
     places: &'a [EntryPosition],
 }
 
@@ -192,7 +194,7 @@ fn places_after(places: &[EntryPosition], cookie: u64) -> &[EntryPosition]
 // The first of the entries that still stand at some places, and the places after it.
 #[inline(always)]
 fn first_live<'a>(
-    rows: &'a IndexMap<Vec<u8>, EntryData>,
+    rows: &'a IndexMap<EntryName, EntryData>,
     places: &'a [EntryPosition],
 ) -> Option<(EntryView<'a>, &'a [EntryPosition])>
     ensures some { IfSome result (λ f. listed rows.now.entries places.now ≡ entry_seen f.0 ∷ listed rows.now.entries f.1.now) }
@@ -207,18 +209,18 @@ fn first_live<'a>(
 }
 
 // The index of the row of a name, and the number there.
-fn row_named(rows: &IndexMap<Vec<u8>, EntryData>, name: &[u8]) -> Option<(usize, Number)>
+fn row_named(rows: &IndexMap<EntryName, EntryData>, name: &[u8]) -> Option<(usize, Number)>
     ensures found { IfSome result (λ f. IsRowOf rows.now.entries name.now f.0 f.1.0) }
     ensures none { IfNone result (HasNo rows.now.entries name.now) }
 {
-    match rows.get_full(name) {
+    match rows.get_full(SoughtName { bytes: name }) {
         Some((index, _, kept)) => Some((index, kept.number())),
         None => None,
     }
 }
 
 // The place of the row that came to an index, if one did, leads there.
-fn settle(places: &mut Vec<EntryPosition>, rows: &IndexMap<Vec<u8>, EntryData>, index: usize)
+fn settle(places: &mut Vec<EntryPosition>, rows: &IndexMap<EntryName, EntryData>, index: usize)
     requires { (next : ℕ) × Rises 0 places.old.items next }
     ensures items { places.new.items ≡ settled index (slice_get rows.now.entries index) places.old.items }
     ensures len { vec_len places.new ≡ vec_len places.old }
@@ -281,7 +283,7 @@ fn lead_by_halving(places: &mut Vec<EntryPosition>, cookie: u64, index: usize)
 }
 
 // Takes the dead places out where they are more than half, in no memory.
-fn thin(places: &mut Vec<EntryPosition>, rows: &IndexMap<Vec<u8>, EntryData>)
+fn thin(places: &mut Vec<EntryPosition>, rows: &IndexMap<EntryName, EntryData>)
     ensures items { places.new.items ≡ places.old.items ⊎ places.new.items ≡ filter (is_live rows.now.entries) places.old.items }
     ensures few { AreFew rows.now.entries places.new.items }
     ensures len { vec_len places.new ≤ vec_len places.old }
@@ -293,7 +295,7 @@ fn thin(places: &mut Vec<EntryPosition>, rows: &IndexMap<Vec<u8>, EntryData>)
 }
 
 // Takes the dead places out, in no memory.
-fn close_up(places: &mut Vec<EntryPosition>, rows: &IndexMap<Vec<u8>, EntryData>)
+fn close_up(places: &mut Vec<EntryPosition>, rows: &IndexMap<EntryName, EntryData>)
     ensures items { places.new.items ≡ filter (is_live rows.now.entries) places.old.items }
     ensures len { vec_len places.new ≤ vec_len places.old }
     ensures capacity { vec_capacity places.new ≡ vec_capacity places.old }
@@ -308,7 +310,7 @@ fn close_up(places: &mut Vec<EntryPosition>, rows: &IndexMap<Vec<u8>, EntryData>
 // The entry that still stands at a place.
 #[inline(always)]
 fn standing<'a>(
-    rows: &'a IndexMap<Vec<u8>, EntryData>,
+    rows: &'a IndexMap<EntryName, EntryData>,
     place: &EntryPosition,
 ) -> Option<EntryView<'a>>
     ensures { option_map entry_seen result ≡ spec.standing rows.now.entries place.now }

@@ -1,4 +1,4 @@
-use Rattle.std.proofs.Common.{ℕ, Vec, Global, ◌≡◌, ◌++◌, ◌∷◌, [], bytes_eq, length, suc, if◌then◌else◌, ap, sym, subst, ◌∙◌, arith}
+use Rattle.std.proofs.Common.{◌≡◌, ◌++◌, ◌∷◌, [], bytes_eq, length, suc, if◌then◌else◌, ap, sym, subst, ◌∙◌, arith}
 use Rattle.std.specs.Prelude.{find, is_ok}
 use Rattle.std.proofs.lemmas.Result.{IfOk-at_ok}
 use Rattle.indexmap.specs.IndexMap.{insert_entry}
@@ -15,11 +15,10 @@ invariant_of-self c =
     let rows = c.self.inside.rows.entries in
     let places = c.self.inside.places.items in
     let kept : KeptValue = record { cookie = c.self.inside.next; number = c.args.number.0 } in
-    let row : Row = (c.args.name, kept) in
+    let row : Row = (c.args.name.items, kept) in
     let absent : HasNo rows c.args.name.items = absent_from c.args.name.items rows places c.self.inside.next c.self.invariant.0 (ap (λ (v : Listed). find (has_name c.args.name.items) v.entries) c.self.view_is ∙ c.requires.absent) in
-    let eq = λ (a b : Vec ℕ Global). bytes_eq a.items b.items in
-    let inserted : c.insert.new.self.entries ≡ insert_entry eq rows c.args.name kept = IfOk-at_ok (λ _. c.insert.new.self.entries ≡ insert_entry eq rows c.args.name c.new.result) c.unwrap.ensures c.insert.ensures.entries ∙ ap (insert_entry eq rows c.args.name) c.new.ensures in
-    let new_rows : c.insert.new.self.entries ≡ rows ++ row ∷ [] = inserted ∙ insert_entry-new eq c.self.inside.rows c.args.name kept (unlooked (eq c.args.name) rows (λ i r at. flipped c.args.name.items r.0.items ∙ absent i r at)) in
+    let inserted : c.insert.new.self.entries ≡ insert_entry bytes_eq rows c.args.name.items kept = IfOk-at_ok (λ _. c.insert.new.self.entries ≡ insert_entry bytes_eq rows c.new.result c.new-2.result) c.unwrap.ensures c.insert.ensures.entries ∙ (λ i. insert_entry bytes_eq rows (c.new.ensures i) (c.new-2.ensures i)) in
+    let new_rows : c.insert.new.self.entries ≡ rows ++ row ∷ [] = inserted ∙ insert_entry-new bytes_eq c.self.inside.rows c.args.name.items kept (unlooked (bytes_eq c.args.name.items) rows (λ i r at. flipped c.args.name.items r.0 ∙ absent i r at)) in
     let pushed : c.push.new.self.items ≡ places ++ (record { cookie = c.self.inside.next; index = c.len-index.result }) ∷ [] = c.push.ensures.items ∙ ap (λ r. if is_ok r then places ++ (record { cookie = c.self.inside.next; index = c.len-index.result }) ∷ [] else places) c.unwrap-2.ensures in
     let new_places : c.push.new.self.items ≡ places ++ place_of row (length rows) ∷ [] = pushed ∙ ap (λ n. places ++ (record { cookie = c.self.inside.next; index = n }) ∷ []) c.len-index.ensures.len in (
       subst (λ n. IsKept c.insert.new.self.entries c.push.new.self.items n) (omega arith)
@@ -34,11 +33,10 @@ returns-clause-entries c =
     let rows = c.self.inside.rows.entries in
     let places = c.self.inside.places.items in
     let kept : KeptValue = record { cookie = c.self.inside.next; number = c.args.number.0 } in
-    let row : Row = (c.args.name, kept) in
+    let row : Row = (c.args.name.items, kept) in
     let absent : HasNo rows c.args.name.items = absent_from c.args.name.items rows places c.self.inside.next c.self.invariant.0 (ap (λ (v : Listed). find (has_name c.args.name.items) v.entries) c.self.view_is ∙ c.requires.absent) in
-    let eq = λ (a b : Vec ℕ Global). bytes_eq a.items b.items in
-    let inserted : c.insert.new.self.entries ≡ insert_entry eq rows c.args.name kept = IfOk-at_ok (λ _. c.insert.new.self.entries ≡ insert_entry eq rows c.args.name c.new.result) c.unwrap.ensures c.insert.ensures.entries ∙ ap (insert_entry eq rows c.args.name) c.new.ensures in
-    let new_rows : c.insert.new.self.entries ≡ rows ++ row ∷ [] = inserted ∙ insert_entry-new eq c.self.inside.rows c.args.name kept (unlooked (eq c.args.name) rows (λ i r at. flipped c.args.name.items r.0.items ∙ absent i r at)) in
+    let inserted : c.insert.new.self.entries ≡ insert_entry bytes_eq rows c.args.name.items kept = IfOk-at_ok (λ _. c.insert.new.self.entries ≡ insert_entry bytes_eq rows c.new.result c.new-2.result) c.unwrap.ensures c.insert.ensures.entries ∙ (λ i. insert_entry bytes_eq rows (c.new.ensures i) (c.new-2.ensures i)) in
+    let new_rows : c.insert.new.self.entries ≡ rows ++ row ∷ [] = inserted ∙ insert_entry-new bytes_eq c.self.inside.rows c.args.name.items kept (unlooked (bytes_eq c.args.name.items) rows (λ i r at. flipped c.args.name.items r.0 ∙ absent i r at)) in
     let pushed : c.push.new.self.items ≡ places ++ (record { cookie = c.self.inside.next; index = c.len-index.result }) ∷ [] = c.push.ensures.items ∙ ap (λ r. if is_ok r then places ++ (record { cookie = c.self.inside.next; index = c.len-index.result }) ∷ [] else places) c.unwrap-2.ensures in
     let new_places : c.push.new.self.items ≡ places ++ place_of row (length rows) ∷ [] = pushed ∙ ap (λ n. places ++ (record { cookie = c.self.inside.next; index = n }) ∷ []) c.len-index.ensures.len in
     (λ i. listed (new_rows i) (new_places i)) ∙ listed_more rows places row c.self.invariant.0 absent
