@@ -46,6 +46,17 @@ journal_holds lasting failed notes (Some journal) holds is e = is ∙ or_true no
 none_of : {X Y : Type 0} (x : X) → Some x ≡ None → Y
 none_of x e = cc
 
+-- replies are held in a turn where the server keeps notes, or there is a journal
+pub turn_holds : {J : Type 0} (lasting : J → Option (List ℕ)) (failed : J → Bool) (notes : Bool) (journal : Option J) (holds : Bool) → holds ≡ (notes || is_some journal) → (notes || is_some (journal_of lasting failed journal)) ≡ true → holds ≡ true
+turn_holds lasting failed notes None holds is e = is ∙ e
+turn_holds lasting failed notes (Some journal) holds is e = is ∙ e
+
+-- and so in each turn of a round at whose beginning there is one
+pub round_holds : (began journal : Option Journal) (noted : Option (List ℕ)) (notes : Bool) → JournalGoes began noted journal → is_some began ≡ true → (notes || is_some journal) ≡ true
+round_holds None journal noted notes g e = absurd (true≢false (sym e))
+round_holds (Some began) None noted notes g e = absurd g
+round_holds (Some began) (Some journal) noted notes g e = or_true notes
+
 -- ---- one change after another
 
 module _ {L : Type 0} (outgoing incoming : L → Option (List ℕ)) where

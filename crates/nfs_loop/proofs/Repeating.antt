@@ -1,5 +1,5 @@
 -- One round after another.
-use Rattle.std.proofs.Common.{◌≡◌, ◌⊎◌, ℕ, ◌≤◌, Bool, true, false, not, ◌&&◌, nat_le, if◌then◌else◌, List, [], ◌∷◌, ◌++◌, length, Option, Some, None, option_map, inl, inr, refl, sym, ap, subst, ◌∙◌, append-nil, length-append, arith}
+use Rattle.std.proofs.Common.{◌≡◌, ◌⊎◌, ℕ, ◌≤◌, Bool, true, false, not, ◌&&◌, nat_le, if◌then◌else◌, List, [], ◌∷◌, ◌++◌, length, Option, Some, None, is_some, option_map, inl, inr, refl, sym, ap, subst, ◌∙◌, append-nil, length-append, arith}
 use Rattle.std.proofs.lemmas.Bool.{leb-true, true≢false}
 use Rattle.slab.specs.Slab.{Slab, get}
 use Rattle.nfs_lines.specs.Queued.{Queued, is_full, put_plainly}
@@ -112,7 +112,7 @@ module _ {L : Type 0} (outgoing incoming : L → Option (List ℕ)) (reports : L
       → Goes outgoing incoming (λ changes. WithoutTurns c changes d) turned_at ended
       → MayReload ended.server reloaded.server → reloaded ≡ record ended { server = reloaded.server }
       → IsSettled from.journal old.server → (noted : Option (List ℕ)) × SettlesBy noted reloaded.server new.server × JournalGoes journal_turned noted to.journal → new ≡ record reloaded { server = new.server }
-      → WaitAgain incoming reports to.watches (seats turned_at.members) first to.queue → ((key : ℕ) → (get new.members key ≡ get turned_at.members key) ⊎ (get new.members key ≡ None))
+      → WaitAgain incoming reports (is_some from.journal) to.watches (seats gathered.members) (seats turned_at.members) first to.queue → ((key : ℕ) → (get new.members key ≡ get turned_at.members key) ⊎ (get new.members key ≡ None))
       → SomeMayBeHeld first left to.watches → SilentLeave to.watches to.queue from.idle from.looked c d to.looked turned_at.members new.members → to.idle ≡ from.idle
       → (changes : List Change) × IsRound outgoing incoming reports changes a d from to old new
   unfolding after_turns before_turns with_reports
@@ -149,7 +149,7 @@ module _ {L : Type 0} (outgoing incoming : L → Option (List ℕ)) (reports : L
           releases = releases;
           full_is = full_is;
           turned_are = settles_no_turn settle.0 with_reload ∙ no_turn reload.0 whole.changes ∙ whole.such.0;
-          wait_again = again_where_some_left incoming reports to.watches (seats turned_at.members) (seats new.members) first to.queue (λ key. seat_or_none (get turned_at.members key) (get new.members key) (some_left key)) again;
+          wait_again = again_where_some_left incoming reports (is_some from.journal) to.watches (seats gathered.members) (seats turned_at.members) (seats new.members) first to.queue (λ key. seat_or_none (get turned_at.members key) (get new.members key) (some_left key)) again;
           some_held = some_held;
           served = turned_at;
           looks_at = c;

@@ -1,5 +1,5 @@
 -- What a service is, and what its turns bring.
-use Rattle.std.specs.Prelude.{◌≡◌, ◌≢◌, ◌⊎◌, ℕ, ◌+◌, ◌/◌, ◌<◌, ◌≤◌, Bool, false, true, List, [], ◌∷◌, ◌++◌, length, Option, Some, None, IsSome, option_map}
+use Rattle.std.specs.Prelude.{◌≡◌, ◌≢◌, ◌⊎◌, ℕ, ◌+◌, ◌/◌, ◌<◌, ◌≤◌, Bool, false, true, List, [], ◌∷◌, ◌++◌, length, Option, Some, None, IsSome, is_some, option_map}
 use Rattle.std.specs.List.{AllByRecursion}
 use Rattle.std.specs.declared.net.ip_addr.IpAddr.{IpAddr}
 use Rattle.slab.specs.Slab.{Slab, get, Updates, SameValues}
@@ -54,16 +54,21 @@ turned (passes ∷ earlier) = turned earlier
 turned (reloads exports ∷ earlier) = turned earlier
 turned (settles notes ∷ earlier) = turned earlier
 
--- Whoever has its turn and stays sleeps only where it is owed an event or room for lines: replies are pending; all that was received was taken, and the link reported that nothing more was there; or its next record is held, and so is the client, until the log is not full any more.
-abbrev pub Sleeps : {L : Type 0} → (L → Option (List ℕ)) → (L → ℕ → Came → L → Type 0) → Option Hold → Option (Seat L) → Type 0
-Sleeps incoming reports hold None = Unit {0}
-Sleeps incoming reports hold (Some seat) = (seat.client.channel.pending ≢ [])
-    ⊎ (((seat.client.chunk ≡ []) × IsExhausted incoming reports seat.client.channel.link)
-    ⊎ ((hold ≡ Some Lines) × ((moment : Moment) × (server : Held) × (full : Bool) × IsHeld moment seat.client server full)))
+-- what is pending for a client, if there is one
+abbrev pub pending_of : {L : Type 0} → Option (Seat L) → List ℕ
+pending_of None = []
+pending_of (Some seat) = seat.client.channel.pending
+
+-- Whoever has its turn and stays sleeps only where it is owed an event or room for lines. Either replies are pending, and where the turn held its replies, some were pending before it. Or none are, and all that was received was taken, and the link reported that nothing more was there; or its next record is held, and so is the client, until the log is not full any more. So a client whose replies were held, and for which none had been pending, does not sleep.
+abbrev pub Sleeps : {L : Type 0} → (L → Option (List ℕ)) → (L → ℕ → Came → L → Type 0) → Bool → Option Hold → Option (Seat L) → Option (Seat L) → Type 0
+Sleeps incoming reports holds hold was None = Unit {0}
+Sleeps incoming reports holds hold was (Some seat) = ((seat.client.channel.pending ≢ []) × (holds ≡ true → pending_of was ≢ []))
+    ⊎ ((seat.client.channel.pending ≡ []) × (((seat.client.chunk ≡ []) × IsExhausted incoming reports seat.client.channel.link)
+    ⊎ ((hold ≡ Some Lines) × ((moment : Moment) × (server : Held) × (full : Bool) × IsHeld moment seat.client server full))))
 
 -- it waits again, or it sleeps
-abbrev pub IsAgain : {L : Type 0} → (L → Option (List ℕ)) → (L → ℕ → Came → L → Type 0) → Option Hold → ℕ → List ℕ → Option (Seat L) → Type 0
-IsAgain incoming reports hold key again seat = (again ≡ key ∷ []) ⊎ ((again ≡ []) × Sleeps incoming reports hold seat)
+abbrev pub IsAgain : {L : Type 0} → (L → Option (List ℕ)) → (L → ℕ → Came → L → Type 0) → Bool → Option Hold → ℕ → List ℕ → Option (Seat L) → Option (Seat L) → Type 0
+IsAgain incoming reports holds hold key again was seat = (again ≡ key ∷ []) ⊎ ((again ≡ []) × Sleeps incoming reports holds hold was seat)
 
 -- all sit as they sat, but for the one of this key
 abbrev pub OthersStay : {L : Type 0} → ℕ → (ℕ → Option (Seat L)) → (ℕ → Option (Seat L)) → Type 0
@@ -73,17 +78,17 @@ OthersStay key was seat = (other : ℕ) → other ≢ key → seat other ≡ was
 abbrev pub AllOthersStay : {L : Type 0} → List ℕ → (ℕ → Option (Seat L)) → (ℕ → Option (Seat L)) → Type 0
 AllOthersStay keys was seat = (other : ℕ) → is_waiting other keys ≡ false → seat other ≡ was other
 
--- The first of the queue has its turn. It may wait again then, after all others, or it sleeps, by what is known of the clients then.
-abbrev pub TurnsFirst : {L : Type 0} → (L → Option (List ℕ)) → (L → ℕ → Came → L → Type 0) → List Watch → (ℕ → Option (Seat L)) → (ℕ → Option (Seat L)) → List ℕ → List Change → List ℕ → Type 0
-TurnsFirst incoming reports watches was seat [] changes queue = (changes ≡ []) × (queue ≡ [])
-TurnsFirst incoming reports watches was seat (key ∷ rest) changes queue = (turned changes ≡ key ∷ []) × OthersStay key was seat
-    × ((again : List ℕ) × (queue ≡ rest ++ again) × IsAgain incoming reports (hold_at watches key) key again (seat key))
+-- The first of the queue has its turn, which holds its replies or not. It may wait again then, after all others, or it sleeps, by what is known of the clients then.
+abbrev pub TurnsFirst : {L : Type 0} → (L → Option (List ℕ)) → (L → ℕ → Came → L → Type 0) → Bool → List Watch → (ℕ → Option (Seat L)) → (ℕ → Option (Seat L)) → List ℕ → List Change → List ℕ → Type 0
+TurnsFirst incoming reports holds watches was seat [] changes queue = (changes ≡ []) × (queue ≡ [])
+TurnsFirst incoming reports holds watches was seat (key ∷ rest) changes queue = (turned changes ≡ key ∷ []) × OthersStay key was seat
+    × ((again : List ℕ) × (queue ≡ rest ++ again) × IsAgain incoming reports holds (hold_at watches key) key again (was key) (seat key))
 
--- those of these keys that are there and don't sleep wait again, in this order, and nobody else does
-abbrev pub WaitAgain : {L : Type 0} → (L → Option (List ℕ)) → (L → ℕ → Came → L → Type 0) → List Watch → (ℕ → Option (Seat L)) → List ℕ → List ℕ → Type 0
-WaitAgain incoming reports watches seat [] queue = queue ≡ []
-WaitAgain incoming reports watches seat (key ∷ keys) queue = ((rest : List ℕ) × (queue ≡ key ∷ rest) × WaitAgain incoming reports watches seat keys rest)
-    ⊎ (Sleeps incoming reports (hold_at watches key) (seat key) × WaitAgain incoming reports watches seat keys queue)
+-- Those of these keys that are there and don't sleep wait again, in this order, and nobody else does, once each had a turn. The turns held their replies or not, and the first seats are those before them.
+abbrev pub WaitAgain : {L : Type 0} → (L → Option (List ℕ)) → (L → ℕ → Came → L → Type 0) → Bool → List Watch → (ℕ → Option (Seat L)) → (ℕ → Option (Seat L)) → List ℕ → List ℕ → Type 0
+WaitAgain incoming reports holds watches was seat [] queue = queue ≡ []
+WaitAgain incoming reports holds watches was seat (key ∷ keys) queue = ((rest : List ℕ) × (queue ≡ key ∷ rest) × WaitAgain incoming reports holds watches was seat keys rest)
+    ⊎ (Sleeps incoming reports holds (hold_at watches key) (was key) (seat key) × WaitAgain incoming reports holds watches was seat keys queue)
 
 -- ---- when a client was heard of
 
@@ -129,13 +134,13 @@ abbrev pub AreTurnsBeside : {L : Type 0} → (L → Option (List ℕ)) → (L �
 AreTurnsBeside outgoing incoming journal changes old new = AreBeside outgoing incoming old.written.shared journal changes (state old) (state new)
 
 -- In the midst of a round, with so many turns left: those that waited first have had their turns, and then the rest has, which still waits before all others. Who had its turn waits again after the rest, or sleeps. All others sit as they sat when the turns began, and when they were heard of stays.
-pub record InRound {L : Type 0} (incoming : L → Option (List ℕ)) (reports : L → ℕ → Came → L → Type 0) (reported reported_now : Option (List Report)) (watched watches : List Watch) (began seat : ℕ → Option (Seat L)) (first queue : List ℕ) (left : ℕ) (changes : List Change) : Type 0 where
+pub record InRound {L : Type 0} (incoming : L → Option (List ℕ)) (reports : L → ℕ → Came → L → Type 0) (holds : Bool) (reported reported_now : Option (List Report)) (watched watches : List Watch) (began seat : ℕ → Option (Seat L)) (first queue : List ℕ) (left : ℕ) (changes : List Change) : Type 0 where
   pub rest : List ℕ
   pub again : List ℕ
   pub first_is : first ≡ turned changes ++ rest
   pub queue_is : queue ≡ rest ++ again
   pub left_is : length rest ≡ left
-  pub wait_again : WaitAgain incoming reports watches seat (turned changes) again
+  pub wait_again : WaitAgain incoming reports holds watches began seat (turned changes) again
   pub others_stay : AllOthersStay (turned changes) began seat
   pub heard : HeardInTurns incoming reports reported reported_now (turned changes) again watched watches seat
 
@@ -251,7 +256,7 @@ abbrev pub reload_of : Option (List (List Export)) → List Change
 reload_of None = []
 reload_of (Some exports) = reloads exports ∷ []
 
--- A round: the network is asked what is ready. Those of which something was reported wait after those that waited, unless they get no turn for now; others may have joined since; and after them wait those whose hold is over, by what the clock reported once these had come and before the moment of any turn, and as the log was full or not. Nothing was written up to there. Then each who waits has one turn, in that order, and at the end it waits again, sleeps or is gone. All others stay, and only those that had a turn are held who were not before. When each was heard of stays, but for two: for one that joins, and for one of which something was heard in its turn, it is a time that the clock reported then. At the end of the round, once all turns are over, those that are silent leave, and nobody else does there, by the time that the clock reported then. The changes up to there lead to those who are looked at, and nobody has a turn in the others. At the very end other exports may be put in force, and only there. Where there is a journal, the server has nothing to note when the round begins; what it notes comes to last in the journal between turns, so that no turn begins where more than 2 MiB are noted, and after all else, unless that fails; and nothing goes out in a turn but what was pending when it began.
+-- A round: the network is asked what is ready. Those of which something was reported wait after those that waited, unless they get no turn for now; others may have joined since; and after them wait those whose hold is over, by what the clock reported once these had come and before the moment of any turn, and as the log was full or not. Nothing was written up to there. Then each who waits has one turn, in that order, and at the end it waits again, sleeps or is gone. All others stay, and only those that had a turn are held who were not before. When each was heard of stays, but for two: for one that joins, and for one of which something was heard in its turn, it is a time that the clock reported then. At the end of the round, once all turns are over, those that are silent leave, and nobody else does there, by the time that the clock reported then. The changes up to there lead to those who are looked at, and nobody has a turn in the others. At the very end other exports may be put in force, and only there. Where there is a journal, the server has nothing to note when the round begins; what it notes comes to last in the journal between turns, so that no turn begins where more than 2 MiB are noted, and after all else, unless that fails; and nothing goes out in a turn but what was pending when it began, so that whoever is owed replies after its turn, and was owed none before it, waits again.
 pub record IsRound {L : Type 0} (outgoing incoming : L → Option (List ℕ)) (reports : L → ℕ → Came → L → Type 0) (changes : List Change) (reported reported_now : Option (List Report)) (from to : Schedule) (old new : Stage L) : Type 0 where
   pub are_changes : AreChanges outgoing incoming old.written.shared changes (state old) (state new)
   pub shared_stays : new.written.shared ≡ old.written.shared
@@ -275,7 +280,7 @@ pub record IsRound {L : Type 0} (outgoing incoming : L → Option (List ℕ)) (r
   pub releases : ReleasesBy gathered.members from.full before after held left ready_queue first
   pub full_is : MayBeFull from.full old.written
   pub turned_are : turned changes ≡ first
-  pub wait_again : WaitAgain incoming reports to.watches (seats new.members) first to.queue
+  pub wait_again : WaitAgain incoming reports (is_some from.journal) to.watches (seats gathered.members) (seats new.members) first to.queue
   pub some_held : SomeMayBeHeld first left to.watches
   pub served : Stage L
   pub looks_at : Option (List Report)

@@ -148,8 +148,8 @@ impl<L: Link + Drop> Service<L> {
         ensures others { AllOthersStay self.old.clients.1.0 (seats self.old.clients.0) (seats self.new.clients.0) }
         ensures heard { HeardInTurns L.incoming L.reports (N.reported net.old) (N.reported net.new) self.old.clients.1.0 self.new.clients.1.0
             self.old.housekeeping.watches self.new.housekeeping.watches (seats self.new.clients.0) }
-        ensures again { WaitAgain L.incoming L.reports self.new.housekeeping.watches (seats self.new.clients.0)
-            self.old.clients.1.0 self.new.clients.1.0 }
+        ensures again { WaitAgain L.incoming L.reports (is_some (journal_of J.lasting J.failed journal.old)) self.new.housekeeping.watches
+            (seats self.old.clients.0) (seats self.new.clients.0) self.old.clients.1.0 self.new.clients.1.0 }
         ensures looked { self.new.housekeeping.looked ≡ self.old.housekeeping.looked }
         ensures limits { self.new.housekeeping.limits ≡ self.old.housekeeping.limits }
         ensures watched { AreWatched self.new.clients.0 self.new.housekeeping.watches }
@@ -174,7 +174,8 @@ impl<L: Link + Drop> Service<L> {
     )
         requires watched { AreWatched self.old.clients.0 self.old.housekeeping.watches }
         ensures goes { Goes L.outgoing L.incoming
-            (λ changes. TurnsFirst L.incoming L.reports self.new.housekeeping.watches (seats self.old.clients.0) (seats self.new.clients.0)
+            (λ changes. TurnsFirst L.incoming L.reports (is_some server.old.notes || is_some (journal_of J.lasting J.failed journal.now))
+            self.new.housekeeping.watches (seats self.old.clients.0) (seats self.new.clients.0)
             self.old.clients.1.0 changes self.new.clients.1.0 × Accounts (N.reported net.old) changes (N.reported net.new) × (noted_by changes ≡ None)
             × (LeavesRoom (journal_of J.lasting J.failed journal.now) server.old → AreTurnsBeside L.outgoing L.incoming (journal_of J.lasting J.failed journal.now) changes
             (stage server.old self.old.clients.0 self.old.joined (written A.taken C.taken lines.old))

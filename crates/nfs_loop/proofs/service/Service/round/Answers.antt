@@ -1,4 +1,4 @@
-use Rattle.std.proofs.Common.{◌≡◌, List, ◌∙◌, ap, refl, subst, sym}
+use Rattle.std.proofs.Common.{◌≡◌, List, is_some, ◌∙◌, ap, refl, subst, sym}
 use Rattle.slab.specs.Slab.{get}
 use Rattle.nfs_lines.specs.Queued.{is_full}
 use Rattle.nfs_loop.specs.declared.limits.Limits.{Limits}
@@ -38,8 +38,9 @@ returns g c =
           (subst (λ q. HeardInTurns come g.L.Link.reports (g.N.Network.reported c.release.new.net) (g.N.Network.reported c.turns.new.net) c.release.new.self.clients.1.0 q c.release.new.self.housekeeping.watches c.turns.new.self.housekeeping.watches (seats c.turns.new.self.clients.0)) (sym c.end_silent.ensures.queue) c.turns.ensures.heard))
           (goes_then out come _ _ _ _ _ _ (c.end_silent.ensures.goes _) (passed out come _ _ _ _ _ _ _ c.attend.ensures.lines c.attend.ensures.reported))
           c.attend.ensures.reloads refl c.requires.settled c.settle.ensures.goes refl
-          (subst (λ ws. WaitAgain come g.L.Link.reports ws (seats c.turns.new.self.clients.0) c.release.new.self.clients.1.0 c.end_silent.new.self.clients.1.0) (sym (c.attend.ensures.watches ∙ c.end_silent.ensures.watches))
-          (subst (WaitAgain come g.L.Link.reports c.turns.new.self.housekeeping.watches (seats c.turns.new.self.clients.0) c.release.new.self.clients.1.0) (sym c.end_silent.ensures.queue) c.turns.ensures.again))
+          (subst (λ ws. WaitAgain come g.L.Link.reports (is_some (seen c.args.journal.now)) ws (seats c.accept_some.new.self.clients.0) (seats c.turns.new.self.clients.0) c.release.new.self.clients.1.0 c.end_silent.new.self.clients.1.0) (sym (c.attend.ensures.watches ∙ c.end_silent.ensures.watches))
+          (subst (WaitAgain come g.L.Link.reports (is_some (seen c.args.journal.now)) c.turns.new.self.housekeeping.watches (seats c.accept_some.new.self.clients.0) (seats c.turns.new.self.clients.0) c.release.new.self.clients.1.0) (sym c.end_silent.ensures.queue)
+          (subst (λ m. WaitAgain come g.L.Link.reports (is_some (seen c.args.journal.now)) c.turns.new.self.housekeeping.watches (seats m) (seats c.turns.new.self.clients.0) c.release.new.self.clients.1.0 c.turns.new.self.clients.1.0) c.release.ensures.members c.turns.ensures.again)))
           (stay_or_leave _ _ _ _ c.turns.new.self.clients.0 c.end_silent.new.self.clients.0 c.end_silent.ensures.silent.only)
           (subst (SomeMayBeHeld c.release.new.self.clients.1.0 c.release.new.self.housekeeping.watches) (sym (c.attend.ensures.watches ∙ c.end_silent.ensures.watches)) c.turns.ensures.holds)
           (leave_in_round c.turns.new.self.housekeeping.watches _ c.turns.new.self.clients.1.0 c.end_silent.new.self.clients.1.0 c.turns.new.self.housekeeping.limits.idle _ c.turns.new.self.housekeeping.looked c.end_silent.new.self.housekeeping.looked _ _ _ _ _ c.turns.new.self.clients.0 c.end_silent.new.self.clients.0

@@ -4,7 +4,7 @@ use Rattle.nfs_loop.specs.Reports.{at, since}
 use Rattle.nfs_loop.specs.Stages.{seats}
 use Rattle.nfs_loop.specs.Watching.{heard_at, hold_at}
 use Rattle.nfs_queue.specs.Queues.{is_waiting}
-use Rattle.nfs_loop.proofs.Beside.{journal_holds, noted_holds}
+use Rattle.nfs_loop.proofs.Beside.{journal_holds, noted_holds, turn_holds}
 use Rattle.nfs_loop.proofs.Hearing.{heard_back, heard_gone, heard_turn, heard_unless, time_now, unheard_back, unheard_turn}
 use Rattle.nfs_loop.proofs.Lengthening.{waits_last}
 use Rattle.nfs_loop.proofs.Staying.{first_held, held_after}
@@ -16,7 +16,7 @@ use Rattle.nfs_loop.proofs.service.Service.turn.Goals as goal
 
 pub returns-in-Ended : goal.returns-in-Ended
 returns-in-Ended g c = record {
-  goes = goes_away g.L.Link.outgoing g.L.Link.incoming g.L.Link.reports c.now-moment.result c.args.self.now.clients c.next.new.self c.in-Some.key c.in-Some.member c.in-Some.ensures.some _ _ _ _ _ c.turn-turn.ensures.stays refl refl refl
+  goes = goes_away g.L.Link.outgoing g.L.Link.incoming g.L.Link.reports _ c.now-moment.result c.args.self.now.clients c.next.new.self c.in-Some.key c.in-Some.member c.in-Some.ensures.some _ _ _ _ _ c.turn-turn.ensures.stays refl refl refl
       _ _ _ (accounts_one _ _ (since c.millis-millis.result) c.millis-millis.ensures) c.now-moment.ensures _ c.turn-turn.ensures.turns (λ notes e. c.turn-turn.ensures.holds (noted_holds _ _ _ c.holds_replies-holds.ensures notes e))
       _ (λ e. c.turn-turn.ensures.holds (journal_holds g.J.JournalOut.lasting g.J.JournalOut.failed _ _ _ c.holds_replies-holds.ensures e)) c.leave.new.self.watches _ _ c.leave.ensures.reported c.leave.ensures.lines;
   holds = λ key. inl (ap (λ ws. hold_at ws key) c.leave.ensures.watches ∙ c.hear.ensures.holds key);
@@ -31,7 +31,7 @@ returns-in-Ended g c = record {
 
 pub returns-in-Fed : goal.returns-in-Fed
 returns-in-Fed g c = record {
-  goes = comes_back g.L.Link.outgoing g.L.Link.incoming g.L.Link.reports c.now-moment.result c.args.self.now.clients c.next.new.self c.in-Some.key c.in-Some.member c.in-Some.ensures.some _ _ _ _ _ c.turn-turn.ensures.stays refl refl refl
+  goes = comes_back g.L.Link.outgoing g.L.Link.incoming g.L.Link.reports _ c.now-moment.result c.args.self.now.clients c.next.new.self c.in-Some.key c.in-Some.member c.in-Some.ensures.some _ _ _ _ _ c.turn-turn.ensures.stays refl refl refl
       _ _ _ (accounts_one _ _ (since c.millis-millis.result) c.millis-millis.ensures) c.now-moment.ensures _ c.turn-turn.ensures.turns (λ notes e. c.turn-turn.ensures.holds (noted_holds _ _ _ c.holds_replies-holds.ensures notes e))
       _ (λ e. c.turn-turn.ensures.holds (journal_holds g.J.JournalOut.lasting g.J.JournalOut.failed _ _ _ c.holds_replies-holds.ensures e)) c.hear.new.self c.put_back.new.self true c.put_back.ensures.back c.put_back.ensures.queue (λ e. absurd (true≢false e));
   holds = λ key. inl (c.hear.ensures.holds key);
@@ -46,9 +46,9 @@ returns-in-Fed g c = record {
 
 pub returns-in-Drained : goal.returns-in-Drained
 returns-in-Drained g c = record {
-  goes = comes_back g.L.Link.outgoing g.L.Link.incoming g.L.Link.reports c.now-moment.result c.args.self.now.clients c.next.new.self c.in-Some.key c.in-Some.member c.in-Some.ensures.some _ _ _ _ _ c.turn-turn.ensures.stays refl refl refl
+  goes = comes_back g.L.Link.outgoing g.L.Link.incoming g.L.Link.reports _ c.now-moment.result c.args.self.now.clients c.next.new.self c.in-Some.key c.in-Some.member c.in-Some.ensures.some _ _ _ _ _ c.turn-turn.ensures.stays refl refl refl
       _ _ _ (accounts_one _ _ (since c.millis-millis.result) c.millis-millis.ensures) c.now-moment.ensures _ c.turn-turn.ensures.turns (λ notes e. c.turn-turn.ensures.holds (noted_holds _ _ _ c.holds_replies-holds.ensures notes e))
-      _ (λ e. c.turn-turn.ensures.holds (journal_holds g.J.JournalOut.lasting g.J.JournalOut.failed _ _ _ c.holds_replies-holds.ensures e)) c.hear.new.self c.put_back-in-Drained.new.self _ c.put_back-in-Drained.ensures.back c.put_back-in-Drained.ensures.queue (λ e. inr (inl (c.in-Drained.ensures.reports.1, inr c.in-Drained.ensures.asked)));
+      _ (λ e. c.turn-turn.ensures.holds (journal_holds g.J.JournalOut.lasting g.J.JournalOut.failed _ _ _ c.holds_replies-holds.ensures e)) c.hear.new.self c.put_back-in-Drained.new.self _ c.put_back-in-Drained.ensures.back c.put_back-in-Drained.ensures.queue (λ e. inr (c.in-Drained.ensures.reports.0, inl (c.in-Drained.ensures.reports.1, inr c.in-Drained.ensures.asked)));
   holds = λ key. inl (c.hear.ensures.holds key);
   heard = heard_turn g.L.Link.incoming g.L.Link.reports (g.N.Network.reported c.args.net.now) _ c.args.self.now.clients.0 c.in-Some.member c.args.self.now.clients.1.0 c.next.new.self.1.0 c.put_back-in-Drained.new.self.1.0 c.in-Some.key (c.millis-millis.result / 1000) c.args.self.now.housekeeping.watches c.hear.new.self c.hear.new.self (seats c.put_back-in-Drained.new.self.0) c.is_heard-is_heard.result
       c.in-Some.ensures.some.first c.in-Some.ensures.some.was c.requires.watched c.hear.ensures.heard (λ k. refl)
@@ -61,9 +61,9 @@ returns-in-Drained g c = record {
 
 pub returns-in-Idle : goal.returns-in-Idle
 returns-in-Idle g c = record {
-  goes = comes_back g.L.Link.outgoing g.L.Link.incoming g.L.Link.reports c.now-moment.result c.args.self.now.clients c.next.new.self c.in-Some.key c.in-Some.member c.in-Some.ensures.some _ _ _ _ _ c.turn-turn.ensures.stays refl refl refl
+  goes = comes_back g.L.Link.outgoing g.L.Link.incoming g.L.Link.reports _ c.now-moment.result c.args.self.now.clients c.next.new.self c.in-Some.key c.in-Some.member c.in-Some.ensures.some _ _ _ _ _ c.turn-turn.ensures.stays refl refl refl
       _ _ _ (accounts_one _ _ (since c.millis-millis.result) c.millis-millis.ensures) c.now-moment.ensures _ c.turn-turn.ensures.turns (λ notes e. c.turn-turn.ensures.holds (noted_holds _ _ _ c.holds_replies-holds.ensures notes e))
-      _ (λ e. c.turn-turn.ensures.holds (journal_holds g.J.JournalOut.lasting g.J.JournalOut.failed _ _ _ c.holds_replies-holds.ensures e)) c.hear.new.self c.put_back-in-Idle.new.self false c.put_back-in-Idle.ensures.back c.put_back-in-Idle.ensures.queue (λ e. inr (inl (c.in-Idle.ensures.reports.1, inl c.in-Idle.ensures.asked)));
+      _ (λ e. c.turn-turn.ensures.holds (journal_holds g.J.JournalOut.lasting g.J.JournalOut.failed _ _ _ c.holds_replies-holds.ensures e)) c.hear.new.self c.put_back-in-Idle.new.self false c.put_back-in-Idle.ensures.back c.put_back-in-Idle.ensures.queue (λ e. inr (c.in-Idle.ensures.reports.0, inl (c.in-Idle.ensures.reports.1, inl c.in-Idle.ensures.asked)));
   holds = λ key. inl (c.hear.ensures.holds key);
   heard = unheard_turn g.L.Link.incoming g.L.Link.reports (g.N.Network.reported c.args.net.now) _ c.args.self.now.clients.0 c.in-Some.member c.args.self.now.clients.1.0 c.next.new.self.1.0 c.put_back-in-Idle.new.self.1.0 c.in-Some.key (c.millis-millis.result / 1000) c.args.self.now.housekeeping.watches c.hear.new.self c.hear.new.self (seats c.put_back-in-Idle.new.self.0) c.is_heard-is_heard.result
       c.in-Some.ensures.some.first c.in-Some.ensures.some.was c.requires.watched c.hear.ensures.heard (λ k. refl)
@@ -75,9 +75,9 @@ returns-in-Idle g c = record {
 
 pub returns-in-Held : goal.returns-in-Held
 returns-in-Held g c = record {
-  goes = comes_back g.L.Link.outgoing g.L.Link.incoming g.L.Link.reports c.now-moment.result c.args.self.now.clients c.next.new.self c.in-Some.key c.in-Some.member c.in-Some.ensures.some _ _ _ _ _ c.turn-turn.ensures.stays refl refl refl
+  goes = comes_back g.L.Link.outgoing g.L.Link.incoming g.L.Link.reports _ c.now-moment.result c.args.self.now.clients c.next.new.self c.in-Some.key c.in-Some.member c.in-Some.ensures.some _ _ _ _ _ c.turn-turn.ensures.stays refl refl refl
       _ _ _ (accounts_one _ _ (since c.millis-millis.result) c.millis-millis.ensures) c.now-moment.ensures _ c.turn-turn.ensures.turns (λ notes e. c.turn-turn.ensures.holds (noted_holds _ _ _ c.holds_replies-holds.ensures notes e))
-      _ (λ e. c.turn-turn.ensures.holds (journal_holds g.J.JournalOut.lasting g.J.JournalOut.failed _ _ _ c.holds_replies-holds.ensures e)) c.set_hold.new.self c.put_back-in-Held.new.self false c.put_back-in-Held.ensures.back c.put_back-in-Held.ensures.queue (λ e. inr (inr (held_now c.args.self.now.clients.0 c.args.self.now.housekeeping.watches c.hear.new.self c.set_hold.new.self c.in-Some.key c.in-Some.member _ c.in-Some.ensures.some.was c.requires.watched (length_heard c.args.self.now.housekeeping.watches c.hear.new.self c.in-Some.key _ _ c.hear.ensures.heard) c.set_hold.ensures refl, (c.now-moment.result, c.turn-turn.new.server, _, c.in-Held.ensures.held refl))));
+      _ (λ e. c.turn-turn.ensures.holds (journal_holds g.J.JournalOut.lasting g.J.JournalOut.failed _ _ _ c.holds_replies-holds.ensures e)) c.set_hold.new.self c.put_back-in-Held.new.self false c.put_back-in-Held.ensures.back c.put_back-in-Held.ensures.queue (λ e. inr (c.in-Held.ensures.reports, inr (held_now c.args.self.now.clients.0 c.args.self.now.housekeeping.watches c.hear.new.self c.set_hold.new.self c.in-Some.key c.in-Some.member _ c.in-Some.ensures.some.was c.requires.watched (length_heard c.args.self.now.housekeeping.watches c.hear.new.self c.in-Some.key _ _ c.hear.ensures.heard) c.set_hold.ensures refl, (c.now-moment.result, c.turn-turn.new.server, _, c.in-Held.ensures.held refl))));
   holds = held_after c.args.self.now.clients.1.0 c.args.self.now.housekeeping.watches c.hear.new.self c.set_hold.new.self c.hear.ensures.holds
       (first_held c.hear.new.self c.set_hold.new.self c.in-Some.key _ c.args.self.now.clients.1.0 _ c.in-Some.ensures.some.first c.set_hold.ensures refl);
   heard = heard_turn g.L.Link.incoming g.L.Link.reports (g.N.Network.reported c.args.net.now) _ c.args.self.now.clients.0 c.in-Some.member c.args.self.now.clients.1.0 c.next.new.self.1.0 c.put_back-in-Held.new.self.1.0 c.in-Some.key (c.millis-millis.result / 1000) c.args.self.now.housekeeping.watches c.hear.new.self c.set_hold.new.self (seats c.put_back-in-Held.new.self.0) c.is_heard-is_heard.result
@@ -91,7 +91,7 @@ returns-in-Held g c = record {
 
 pub returns-in-Answered : goal.returns-in-Answered
 returns-in-Answered g c = record {
-  goes = comes_back g.L.Link.outgoing g.L.Link.incoming g.L.Link.reports c.now-moment.result c.args.self.now.clients c.next.new.self c.in-Some.key c.in-Some.member c.in-Some.ensures.some _ _ _ _ _ c.turn-turn.ensures.stays refl refl refl
+  goes = comes_back g.L.Link.outgoing g.L.Link.incoming g.L.Link.reports _ c.now-moment.result c.args.self.now.clients c.next.new.self c.in-Some.key c.in-Some.member c.in-Some.ensures.some _ _ _ _ _ c.turn-turn.ensures.stays refl refl refl
       _ _ _ (accounts_one _ _ (since c.millis-millis.result) c.millis-millis.ensures) c.now-moment.ensures _ c.turn-turn.ensures.turns (λ notes e. c.turn-turn.ensures.holds (noted_holds _ _ _ c.holds_replies-holds.ensures notes e))
       _ (λ e. c.turn-turn.ensures.holds (journal_holds g.J.JournalOut.lasting g.J.JournalOut.failed _ _ _ c.holds_replies-holds.ensures e)) c.hear.new.self c.put_back-in-Answered.new.self true c.put_back-in-Answered.ensures.back c.put_back-in-Answered.ensures.queue (λ e. absurd (true≢false e));
   holds = λ key. inl (c.hear.ensures.holds key);
@@ -106,9 +106,9 @@ returns-in-Answered g c = record {
 
 pub returns-in-Owing : goal.returns-in-Owing
 returns-in-Owing g c = record {
-  goes = comes_back g.L.Link.outgoing g.L.Link.incoming g.L.Link.reports c.now-moment.result c.args.self.now.clients c.next.new.self c.in-Some.key c.in-Some.member c.in-Some.ensures.some _ _ _ _ _ c.turn-turn.ensures.stays refl refl refl
+  goes = comes_back g.L.Link.outgoing g.L.Link.incoming g.L.Link.reports _ c.now-moment.result c.args.self.now.clients c.next.new.self c.in-Some.key c.in-Some.member c.in-Some.ensures.some _ _ _ _ _ c.turn-turn.ensures.stays refl refl refl
       _ _ _ (accounts_one _ _ (since c.millis-millis.result) c.millis-millis.ensures) c.now-moment.ensures _ c.turn-turn.ensures.turns (λ notes e. c.turn-turn.ensures.holds (noted_holds _ _ _ c.holds_replies-holds.ensures notes e))
-      _ (λ e. c.turn-turn.ensures.holds (journal_holds g.J.JournalOut.lasting g.J.JournalOut.failed _ _ _ c.holds_replies-holds.ensures e)) c.hear.new.self c.put_back-in-Owing.new.self false c.put_back-in-Owing.ensures.back c.put_back-in-Owing.ensures.queue (λ e. inl c.in-Owing.ensures.reports);
+      _ (λ e. c.turn-turn.ensures.holds (journal_holds g.J.JournalOut.lasting g.J.JournalOut.failed _ _ _ c.holds_replies-holds.ensures e)) c.hear.new.self c.put_back-in-Owing.new.self false c.put_back-in-Owing.ensures.back c.put_back-in-Owing.ensures.queue (λ e. inl (c.in-Owing.ensures.reports, λ held. c.in-Owing.ensures.since (turn_holds g.J.JournalOut.lasting g.J.JournalOut.failed _ _ _ c.holds_replies-holds.ensures held)));
   holds = λ key. inl (c.hear.ensures.holds key);
   heard = heard_turn g.L.Link.incoming g.L.Link.reports (g.N.Network.reported c.args.net.now) _ c.args.self.now.clients.0 c.in-Some.member c.args.self.now.clients.1.0 c.next.new.self.1.0 c.put_back-in-Owing.new.self.1.0 c.in-Some.key (c.millis-millis.result / 1000) c.args.self.now.housekeeping.watches c.hear.new.self c.hear.new.self (seats c.put_back-in-Owing.new.self.0) c.is_heard-is_heard.result
       c.in-Some.ensures.some.first c.in-Some.ensures.some.was c.requires.watched c.hear.ensures.heard (λ k. refl)
@@ -120,4 +120,4 @@ returns-in-Owing g c = record {
 }
 
 pub returns-in_default-clause-goes : goal.returns-in_default-clause-goes
-returns-in_default-clause-goes g c = nobody_turns g.L.Link.outgoing g.L.Link.incoming g.L.Link.reports _ _ _ _ _ _ _ _ c.in_default.ensures.none.0 c.in_default.ensures.none.1
+returns-in_default-clause-goes g c = nobody_turns g.L.Link.outgoing g.L.Link.incoming g.L.Link.reports _ _ _ _ _ _ _ _ _ c.in_default.ensures.none.0 c.in_default.ensures.none.1
