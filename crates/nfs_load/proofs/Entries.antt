@@ -1,6 +1,7 @@
 -- The texts of the files of a tree.
 use Rattle.std.proofs.Common.{◌≡◌, ℕ, suc, ◌≤◌, List, [], ◌∷◌, length, Option, Some, None, option_map, refl, sym, ap, subst, ◌∙◌, arith}
 use Rattle.std.specs.Prelude.{All}
+use Rattle.std.proofs.lemmas.List.Elements.{All-head}
 use Rattle.nfs_attrs.specs.declared.fattr.Fattr.{Fattr}
 use Rattle.nfs_inodes.specs.Tree.{Tree, File, Entry, Kind, at, entries_in, nlink, on_some}
 use Rattle.nfs_inodes.specs.Law.{Law}
@@ -18,6 +19,10 @@ all_after e rest es is all = after (subst AreShort is all)
   where
     after : AreShort (e ∷ rest) → AreShort rest
     after all k d less = all (suc k) d (omega (arith, less))
+
+-- and of the first
+pub first_of : (e : Entry) (rest es : List Entry) → es ≡ e ∷ rest → AreShort es → length e.name ≤ 255
+first_of e rest es is all = All-head (λ (e : Entry). length e.name ≤ 255) e rest (subst AreShort is all)
 
 same : {X : Type 0} (a b : X) → Some a ≡ Some b → a ≡ b
 same a b e = cc

@@ -4,7 +4,7 @@ use Rattle.nfs_xdr.specs.Known.{Grows, GrowsByPart}
 use Rattle.nfs_inodes.specs.Tree.{entries_in}
 use Rattle.nfs_inodes.specs.Views.{entries_left, entry_seen, kind_seen}
 use Rattle.nfs_load.specs.Listings.{entry_line, file_line, view_text}
-use Rattle.nfs_load.proofs.Entries.{all_after}
+use Rattle.nfs_load.proofs.Entries.{all_after, first_of}
 use Rattle.nfs_load.proofs.Writes.{WritesBut, on_err, part_of_first, goes_on, broken_off}
 use Rattle.nfs_load.proofs.listing.write_file.Goals as goal
 
@@ -12,6 +12,9 @@ pub returns-in_err-write_all-clause-part : goal.returns-in_err-write_all-clause-
 returns-in_err-write_all-clause-part g c = on_err c.from_residual.result
     (part_of_first (g.W.ByteOut.contents c.args.out.now) (g.W.ByteOut.contents c.write_all.new.out) (file_line c.args.file.now.attributes) (flat_map entry_line (entries_in (kind_seen c.args.file.now)))
     (subst (λ (l : List ℕ). GrowsByPart (g.W.ByteOut.contents c.args.out.now) l (g.W.ByteOut.contents c.write_all.new.out)) (c.as_slice.ensures.value ∙ c.put_file.ensures ∙ ap file_line c.attributes.ensures) c.in_err-write_all.ensures.part))
+
+pub put_entry-requires : goal.put_entry-requires
+put_entry-requires g c = first_of (entry_seen c.in-Some.entry) (entries_left c.next.new.self) (entries_left c.loop-entry.entries) c.in-Some.ensures.steps c.loop-entry.invariant.short
 
 pub loop-entry-preserved : goal.loop-entry-preserved
 loop-entry-preserved g c = record {
