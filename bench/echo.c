@@ -91,11 +91,15 @@ static void make_index(void) {
     }
 }
 
-/* The reply to a LOOKUP: the handle and the attributes of the name's file, and the directory's attributes. */
+/* The reply to a LOOKUP of a name that is there: the handle and the attributes of its file, and the directory's attributes. */
 static void look_up(unsigned char *out, const unsigned char *name) {
     uint32_t at = hash(name) & mask;
     for (; places[at] && memcmp(entries[places[at] - 1].name, name, NAME) != 0; at = (at + 1) & mask) {}
-    const struct entry *e = entries + (places[at] ? places[at] - 1 : 0);
+    if (!places[at]) {
+        fprintf(stderr, "echo: no such name\n");
+        exit(1);
+    }
+    const struct entry *e = entries + places[at] - 1;
     unsigned char handle[24] = "NFS3";
     put64(put(handle + 12, 0), e->number);
     out = put_attributes(put(put_bytes(out + REPLY_HEAD, handle, sizeof handle), 1), e->attributes);
