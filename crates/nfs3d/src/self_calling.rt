@@ -2,8 +2,8 @@
 
 use crate::serve::fault_of;
 use log::Log;
-use nfs_commands::lending::{ServerUse, lend_tree};
 use nfs_journal::file_journal::FileJournal;
+use nfs_recovery::lending::{ServerUse, lend_tree};
 use nfs_server::server::Server;
 use nfs_source::diagnostic::Diagnostic;
 use nfs_source::fault::Fault;

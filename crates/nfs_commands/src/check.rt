@@ -1,7 +1,6 @@
 //! `nfs3d check`: whether a description is in order, and how much it holds.
 ghost use Rattle.std.specs.Prelude.{◌≡◌, IfErr};
 
-use crate::named::{NamedTree, is_directory, is_file, refuse_sharing};
 use crate::totals::totals_line;
 use nfs_advice::every::{Faulty, every_fault};
 use nfs_advice::warnings::{Warning, warnings};
@@ -9,6 +8,7 @@ use nfs_command_line::invocation::Check;
 use nfs_command_line::sharing::TreeWords;
 use nfs_load::load_error::LoadError;
 use nfs_load::loaded::Loaded;
+use nfs_named::named::{NamedTree, is_directory, is_file, refuse_sharing};
 use nfs_source::description::Description;
 use nfs_source::diagnostic::Diagnostic;
 use nfs_source::fault::Fault;

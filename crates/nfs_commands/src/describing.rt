@@ -1,14 +1,14 @@
 //! `nfs3d describe`: directories on disk, as a description.
 
-use crate::key::key_of;
-use crate::life::NoDigest;
-use crate::shared::SharedDirectories;
-use crate::skipped::report_skipped;
 use nfs_command_line::invocation::Describe;
 use nfs_describe::description::describe;
 use nfs_describe::fault::DescribeFault;
 use nfs_disk::survey::Purpose;
 use nfs_load::loaded::Loaded;
+use nfs_named::life::NoDigest;
+use nfs_named::shared::SharedDirectories;
+use nfs_named::skipped::report_skipped;
+use nfs_saving::key::key_of;
 use nfs_source::diagnostic::Diagnostic;
 use nfs_source::fault::Fault;
 use nfs_source::output::fault_of;

@@ -2,9 +2,9 @@
 ghost use Rattle.std.specs.Prelude.{◌≡◌, IfOk};
 ghost use Rattle.nfs_why.specs.Exports.{exports_text};
 
-use crate::named::NamedTree;
 use nfs_command_line::sharing::TreeWords;
 use nfs_load::loaded::Loaded;
+use nfs_named::named::NamedTree;
 use nfs_source::diagnostic::Diagnostic;
 use nfs_source::output::print;
 use nfs_why::exports::put_exports;

@@ -1,8 +1,8 @@
 //! `nfs3d extract`: a tree, as a directory on disk.
 
-use crate::named::NamedTree;
 use nfs_command_line::invocation::Extract;
 use nfs_extract::extract::{ExtractFault, extract};
+use nfs_named::named::NamedTree;
 use nfs_source::diagnostic::Diagnostic;
 use nfs_source::fault::Fault;
 use std::alloc::Global;

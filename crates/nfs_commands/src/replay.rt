@@ -1,14 +1,14 @@
 //! `nfs3d replay`: a script, run over a description.
 
-use crate::copies::Copies;
-use crate::journal_work::rerun_journal;
 use crate::live::replay_live;
-use crate::named::NamedTree;
 use nfs_ask::script_fault::ScriptFault;
 use nfs_command_line::invocation::Replay;
 use nfs_load::loaded::Loaded;
+use nfs_named::named::NamedTree;
+use nfs_recovery::journal_work::rerun_journal;
 use nfs_replay::replay::replay;
 use nfs_replay::shown::Shown;
+use nfs_saving::copies::Copies;
 use nfs_server::sessions::Sessions;
 use nfs_source::diagnostic::Diagnostic;
 use nfs_source::output::fault_of;

@@ -1,7 +1,7 @@
 //! `nfs3d why`: why a call is granted or denied.
 
-use crate::named::NamedTree;
 use nfs_command_line::invocation::Why;
+use nfs_named::named::NamedTree;
 use nfs_source::description::Description;
 use nfs_source::diagnostic::Diagnostic;
 use nfs_source::fault::Fault;
