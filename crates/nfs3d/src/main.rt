@@ -2,8 +2,6 @@
 #![tactic(auto)]
 
 mod commands;
-mod line_files;
-mod registration;
 mod self_calling;
 mod serve;
 

@@ -1,8 +1,8 @@
 //! A call that a server sends to itself.
 
-use crate::serve::fault_of;
 use log::Log;
 use nfs_journal::file_journal::FileJournal;
+use nfs_listening::listening::fault_of;
 use nfs_recovery::lending::{ServerUse, lend_tree};
 use nfs_server::server::Server;
 use nfs_source::diagnostic::Diagnostic;

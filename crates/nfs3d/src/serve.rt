@@ -1,11 +1,9 @@
 //! Serving over TCP.
-use crate::line_files::{audit_file, output, wording_of};
-use crate::registration::Registration;
+
 use log::sink::Console;
 use log::{Level, Log, Logged};
 use mio::net::TcpListener;
 use nfs_command_line::serve::Serve;
-use nfs_command_line::words::VERSION;
 use nfs_control::attending::Attending;
 use nfs_control::metrics_socket::MetricsSocket;
 use nfs_control::socket::{About, ControlSocket};
@@ -13,7 +11,9 @@ use nfs_control::watch::Watch;
 use nfs_journal::file_journal::FileJournal;
 use nfs_lines::line_out::LineOut;
 use nfs_lines::lines::Lines;
-use nfs_lines::rule_names::first_unknown;
+use nfs_listening::addresses::{addresses_of, has_metrics_address, most_open};
+use nfs_listening::line_files::{audit_file, output, wording_of};
+use nfs_listening::listening::{Listening, fault_of};
 use nfs_loop::attendant::Attendant;
 use nfs_loop::limits::Limits;
 use nfs_loop::network::Network;
@@ -23,20 +23,16 @@ use nfs_named::named::{description_name, is_same_file};
 use nfs_recovery::lending::{ServerUse, lend_life};
 use nfs_saving::copies::Copies;
 use nfs_saving::saved_file::cannot_write;
-use nfs_server::moments::Moments;
 use nfs_server::server::Server;
 use nfs_source::diagnostic::Diagnostic;
 use nfs_source::fault::Fault;
 use nfs_source::journal_fault::JournalFault;
-use nfs_tcp::clock::SystemClock;
 use nfs_tcp::network::TcpNetwork;
-use nfs_tcp::service_fault::ServiceFault;
 use nfs_xdr::link::Link;
-use std::alloc::{AllocError, Global};
+use std::alloc::Global;
 use std::fs::File;
 use std::io;
-use std::mem::replace;
-use std::net::{IpAddr, Ipv4Addr, Net, SocketAddr};
+use std::net::Net;
 use std::process::ExitCode;
 use std::random::RandomSource;
 use std::rt::Files;
@@ -60,8 +56,9 @@ where
     if !has_metrics_address(rt, words) {
         return Ok(ExitCode::from(2));
     }
-    let mut served = Served::listen(rt, alloc, addresses.as_slice(), words)?;
-    served.description = description_name(rt, alloc, words.trees())?;
+    let listening = Listening::at(rt, alloc, addresses.as_slice(), words)?;
+    let description = description_name(rt, alloc, words.trees())?;
+    let served = Served::new(alloc, listening, words, description);
     if !has_files(rt, &served, words) {
         return Ok(ExitCode::from(2));
     }
@@ -166,7 +163,7 @@ where
         C: LineOut,
     {
         let (rt, copies, alloc) = (self.rt, self.copies, self.served.alloc);
-        let mut net = self.served.network(logged)?;
+        let mut net = self.served.listening.network(logged)?;
         let metrics = self.served.metrics(rt, &net)?;
         let control = self.served.control(rt, &net)?;
         if control.is_some() {
@@ -218,82 +215,15 @@ where
     copies.save_last(rt, alloc, server, served)
 }
 
-// The addresses that are listened at; none, which is reported, where a word is faulty.
-fn addresses_of<R: Eprint>(
-    rt: &R,
-    alloc: Global,
-    words: Serve<'_, '_>,
-) -> Result<Option<Vec<IpAddr>>, AllocError> {
-    if let Some(name) = words.audit_skip().and_then(first_unknown) {
-        let _ = eprintln!(rt;
-            "error: invalid value for '--audit-skip <RULES>': there is no rule '{name}'; docs/PROTOCOL.md names them"
-        );
-        return Ok(None);
-    }
-    let mut addresses = Vec::new(alloc);
-    for listen in words.listen() {
-        let Some(address) = address_of(rt, listen) else {
-            return Ok(None);
-        };
-        addresses.push(address)?;
-    }
-    Ok(Some(addresses))
-}
-
-// Whether metrics are asked for at an address, if they are; it is reported where they aren't.
-fn has_metrics_address<R: Eprint>(rt: &R, words: Serve<'_, '_>) -> bool {
-    match words.metrics() {
-        Some(text) if text.parse::<SocketAddr>().is_err() => {
-            let _ = eprintln!(rt;
-                "error: invalid value '{text}' for '--metrics <ADDRESS:PORT>': it is not an address and a port, such as 127.0.0.1:9049"
-            );
-            false
-        }
-        _ => true,
-    }
-}
-
-// The first address that other machines can reach; where there is none, the first.
-fn most_open(addresses: &[IpAddr]) -> IpAddr {
-    for address in addresses {
-        if !address.is_loopback() {
-            return *address;
-        }
-    }
-    let first = addresses.first().copied();
-    first.unwrap_or(IpAddr::V4(Ipv4Addr::LOCALHOST))
-}
-
-// The address that a word is; none, which is reported, where it is no address.
-fn address_of<R: Eprint>(rt: &R, listen: &str) -> Option<IpAddr> {
-    if let Ok(ip) = listen.parse::<IpAddr>() {
-        return Some(ip);
-    }
-    let reason = match listen.parse::<SocketAddr>() {
-        Ok(_) => "it has a port, which --port gives",
-        Err(_) => "it is not an IPv4 or IPv6 address",
-    };
-    let _ = eprintln!(rt; "error: invalid value '{listen}' for '--listen <ADDRESS>': {reason}");
-    None
-}
-
-// Where it is listened, and how much is taken on.
+// What is served, where it is listened, and how much is taken on.
 #[derive(Drop)]
 struct Served<'a> {
     alloc: Global,
-    // The one that faults of the network name.
-    address: SocketAddr,
-    // Those that are listened at.
-    locals: Vec<SocketAddr>,
-    // Until the network has them.
-    listeners: Vec<TcpListener>,
+    listening: Listening,
     limits: Limits,
     level: Level,
     is_registered: bool,
     control: Option<&'a str>,
-    // Where the metrics are, until the service has their listener.
-    metrics: Option<TcpListener>,
-    metrics_local: Option<SocketAddr>,
     is_watched: bool,
     // The name of the description that is served, if it is one.
     description: Option<&'a str>,
@@ -302,16 +232,13 @@ struct Served<'a> {
 }
 
 impl<'a> Served<'a> {
-    // Listens at these addresses.
-    fn listen<R: Net>(
-        rt: &R,
+    // What the words ask for, over these sockets, of a description of this name, if it is one.
+    fn new(
         alloc: Global,
-        addresses: &[IpAddr],
+        listening: Listening,
         words: Serve<'a, '_>,
-    ) -> Result<Served<'a>, Diagnostic> {
-        let listeners = listen_at_all(rt, alloc, addresses, words.port())?;
-        let address = SocketAddr::new(most_open(addresses), words.port());
-        let locals = locals_of(alloc, listeners.as_slice(), address)?;
+        description: Option<&'a str>,
+    ) -> Served<'a> {
         let limits = Limits {
             connections: words.connections(),
             clients: words.clients(),
@@ -319,37 +246,21 @@ impl<'a> Served<'a> {
             save_every: words.save_every(),
             is_watched: words.is_watched(),
         };
-        let metrics = listen_for_metrics(rt, alloc, words)?;
         let level = if words.is_verbose() {
             Level::Info
         } else {
             Level::Warn
         };
-        Ok(Served {
+        Served {
             alloc,
-            address,
-            locals,
-            listeners,
+            listening,
             limits,
             level,
             is_registered: words.is_registered(),
             control: words.control(),
-            metrics_local: metrics
-                .as_ref()
-                .and_then(|listener| listener.local_addr().ok()),
-            metrics,
             is_watched: words.is_watched(),
-            description: None,
+            description,
             journal: words.journal(),
-        })
-    }
-
-    // The network of the listeners.
-    fn network<'r, R: Net + Clock + Log>(&mut self, rt: &'r R) -> Result<TcpNetwork<'r, R>, Fault> {
-        let listeners = replace(&mut self.listeners, Vec::new(self.alloc));
-        match TcpNetwork::new(rt, self.alloc, listeners) {
-            Ok(net) => Ok(net),
-            Err(fault) => Err(fault_of(self.address, fault)),
         }
     }
 
@@ -370,7 +281,7 @@ impl<'a> Served<'a> {
         let about = About {
             description: self.description,
             has_journal: self.journal.is_some(),
-            first_lines: first_lines(self.alloc, self.locals.as_slice())?,
+            first_lines: self.listening.first_lines()?,
         };
         match bind(rt, self.alloc, path, about, net) {
             Ok(socket) => Ok(Some(socket)),
@@ -387,13 +298,13 @@ impl<'a> Served<'a> {
         rt: &'r R,
         net: &TcpNetwork<'_, L>,
     ) -> Result<Option<MetricsSocket<'r, R>>, Fault> {
-        let Some(listener) = self.metrics.take() else {
+        let Some(listener) = self.listening.take_metrics() else {
             return Ok(None);
         };
         match metrics_at(rt, self.alloc, listener, net) {
             Ok(socket) => Ok(Some(socket)),
             Err(error) => Err(Fault::Network {
-                address: self.address,
+                address: self.listening.address(),
                 error,
             }),
         }
@@ -431,13 +342,7 @@ impl<'a> Served<'a> {
         if !self.is_registered {
             return Ok(None);
         }
-        let Some(local) = self.locals.first() else {
-            return Ok(None);
-        };
-        match Registration::at(rt, self.alloc, local.port()) {
-            Ok(registration) => Ok(Some(registration)),
-            Err(fault) => Err(Fault::Unregistered(fault)),
-        }
+        self.listening.register(rt)
     }
 
     // Says where it is listened, and serves the clients of the network.
@@ -459,12 +364,7 @@ impl<'a> Served<'a> {
         C: LineOut,
         T: Attendant,
     {
-        for local in &self.locals {
-            announce(rt, self.alloc, "listening", *local, lines)?;
-        }
-        if let Some(local) = self.metrics_local {
-            announce(rt, self.alloc, "metrics", local, lines)?;
-        }
+        self.listening.announce(rt, lines)?;
         let mut service = Service::new(self.alloc, self.limits)?;
         if let Err(error) = begin_notes(self.alloc, server, journal) {
             return Err(Fault::Memory(error));
@@ -472,7 +372,7 @@ impl<'a> Served<'a> {
         match service.serve(rt, server, net, lines, attendant, journal) {
             Ok(()) if lines.lost_some() => Err(Fault::Write),
             Ok(()) => Ok(()),
-            Err(ServingFault::Network(error)) => Err(fault_of(self.address, error.into())),
+            Err(ServingFault::Network(error)) => Err(fault_of(self.listening.address(), error.into())),
             Err(ServingFault::Journal(_)) => Err(self.journal_fault(journal)),
         }
     }
@@ -506,107 +406,4 @@ fn metrics_at<'r, R: Files, L: Net + Clock + Log>(
     net: &TcpNetwork<'_, L>,
 ) -> io::Result<MetricsSocket<'r, R>> {
     MetricsSocket::new(rt, alloc, listener, net.registry()?)
-}
-
-// The first lines of the status of a service: its version, and the addresses that it listens on.
-fn first_lines(alloc: Global, locals: &[SocketAddr]) -> Result<String, AllocError> {
-    let mut lines = format!(in alloc; "version {VERSION}\n")?;
-    for local in locals {
-        lines.push_str(format!(in alloc; "address {local}\n")?.as_str())?;
-    }
-    Ok(lines)
-}
-
-// The addresses of listeners, of which faults name one.
-fn locals_of(
-    alloc: Global,
-    listeners: &[TcpListener],
-    address: SocketAddr,
-) -> Result<Vec<SocketAddr>, Fault> {
-    let mut locals = Vec::new(alloc);
-    for listener in listeners {
-        match listener.local_addr() {
-            Ok(local) => locals.push(local).map_err(AllocError::from)?,
-            Err(error) => return Err(Fault::Network { address, error }),
-        }
-    }
-    Ok(locals)
-}
-
-// Listens at addresses with this port, or where it is 0 with the one that the system chooses for the first.
-fn listen_at_all<R: Net>(
-    rt: &R,
-    alloc: Global,
-    addresses: &[IpAddr],
-    port: u16,
-) -> Result<Vec<TcpListener>, Diagnostic> {
-    let mut listeners = Vec::new(alloc);
-    let mut port = port;
-    for ip in addresses {
-        let address = SocketAddr::new(*ip, port);
-        let listener = listen_at(rt, alloc, address)?;
-        port = port_of(&listener, address)?;
-        if let Err(error) = listeners.push(listener) {
-            return Err(AllocError::from(error).into());
-        }
-    }
-    Ok(listeners)
-}
-
-// Listens where metrics are asked for, if they are.
-fn listen_for_metrics<R: Net>(
-    rt: &R,
-    alloc: Global,
-    words: Serve<'_, '_>,
-) -> Result<Option<TcpListener>, Diagnostic> {
-    match words
-        .metrics()
-        .and_then(|text| text.parse::<SocketAddr>().ok())
-    {
-        Some(address) => Ok(Some(listen_at(rt, alloc, address)?)),
-        None => Ok(None),
-    }
-}
-
-// Listens at an address.
-fn listen_at<R: Net>(
-    rt: &R,
-    alloc: Global,
-    address: SocketAddr,
-) -> Result<TcpListener, Diagnostic> {
-    match TcpListener::bind(rt, address) {
-        Ok(listener) => Ok(listener),
-        Err(error) => Err(Diagnostic::of_listening(alloc, address, error)),
-    }
-}
-
-// The port that is listened at.
-fn port_of(listener: &TcpListener, address: SocketAddr) -> Result<u16, Fault> {
-    match listener.local_addr() {
-        Ok(local) => Ok(local.port()),
-        Err(error) => Err(Fault::Network { address, error }),
-    }
-}
-
-// Says where it is listened.
-fn announce<R: Clock + Log, A: LineOut, C: LineOut>(
-    rt: &R,
-    alloc: Global,
-    word: &str,
-    local: SocketAddr,
-    lines: &mut Lines<'_, A, C>,
-) -> Result<(), AllocError> {
-    let line = format!(in alloc; "{word} {local}\n")?;
-    let mut clock = SystemClock::new(rt);
-    lines.report(clock.now(), line.as_bytes());
-    Ok(())
-}
-
-/// A fault of a service at this address.
-pub(crate) fn fault_of(address: SocketAddr, fault: ServiceFault) -> Fault {
-    match fault {
-        ServiceFault::Network(error) => Fault::Network { address, error },
-        ServiceFault::Write => Fault::Write,
-        ServiceFault::Memory => Fault::Memory(AllocError),
-    }
 }

@@ -9,14 +9,14 @@ use std::net::Net;
 
 /// NFS and MOUNT, as they are registered with the portmapper of this machine.
 #[derive(Drop)]
-pub(crate) struct Registration {
+pub struct Registration {
     portmapper: Portmapper,
     port: u16,
 }
 
 impl Registration {
     /// Registers both at a port. Where the second is not registered, the first isn't either.
-    pub(crate) fn at<R: Net>(
+    pub fn at<R: Net>(
         rt: &R,
         alloc: Global,
         port: u16,
@@ -33,7 +33,7 @@ impl Registration {
     }
 
     /// Has the portmapper forget both. What can't be removed is reported on standard error.
-    pub(crate) fn remove<R: Eprint>(self, rt: &R) {
+    pub fn remove<R: Eprint>(self, rt: &R) {
         let Registration {
             mut portmapper,
             port,

@@ -12,7 +12,7 @@ use std::os::fd::{AsRawFd, RawFd};
 use std::rt::Files;
 
 /// Standard output. `CannotWrite` where the system has no more files to open.
-pub(crate) fn output<R: Print + Net>(
+pub fn output<R: Print + Net>(
     rt: &R,
     alloc: Global,
 ) -> Result<LineFile<io::Printer<'_, R>>, Fault> {
@@ -26,7 +26,7 @@ pub(crate) fn output<R: Print + Net>(
 }
 
 /// The file of this name, to which lines are appended. `CannotWrite` where the system opens none.
-pub(crate) fn audit_file<R: Files<File = File> + Net>(
+pub fn audit_file<R: Files<File = File> + Net>(
     rt: &R,
     alloc: Global,
     name: &str,
@@ -61,7 +61,7 @@ fn cannot_write<T>(alloc: Global, name: &str, error: io::Error) -> Result<T, Fau
 }
 
 /// How the lines are worded, and which are written.
-pub(crate) fn wording_of<'a>(words: Serve<'a, '_>) -> Wording<'a> {
+pub fn wording_of<'a>(words: Serve<'a, '_>) -> Wording<'a> {
     Wording {
         has_times: words.has_times(),
         has_names: words.is_named(),
