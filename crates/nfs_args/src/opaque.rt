@@ -1,6 +1,7 @@
 //! Bytes that are lent from a record: handles, names, paths and data.
 ghost use Rattle.std.specs.Prelude.{◌≡◌, ◌≤◌, length};
-ghost use Rattle.nfs_xdr.specs.Encoding.{IsOptional, opaque_text, optional_text};
+ghost use Rattle.std.specs.Int.{w32, to_be_bytes};
+ghost use Rattle.nfs_xdr.specs.Encoding.{IsOptional, numbers_text, opaque_text, optional_text};
 ghost use Rattle.nfs_xdr.specs.Written.{Appends};
 ghost use Rattle.nfs_args.specs.Encoding.{IsHandle, IsString};
 ghost use Rattle.nfs_args.specs.Results.{StringFits, HandleFits};
@@ -15,6 +16,9 @@ use std::marker::Model;
 /// How many bytes a verifier has (RFC 1813, section 2.4, NFS3_CREATEVERFSIZE and
 /// NFS3_COOKIEVERFSIZE).
 const VERIFIER_BYTES: usize = 8;
+
+// How many bytes a handle has that is written as numbers: those of this server have as many.
+const WORDS_BYTES: usize = 24;
 
 /// Bytes of a record, without their length and their padding. Contracts see them as a list.
 #[derive(Drop)]
@@ -79,7 +83,12 @@ pub(crate) fn write_handle(out: &mut Output, handle: &Opaque<'_>)
     ensures text { Appends (opaque_text handle.now) out.old out.new }
     ensures encoded { IsHandle handle.now (opaque_text handle.now) }
 {
-    out.opaque(handle.bytes());
+    let handle = handle.bytes();
+    if handle.len() == WORDS_BYTES {
+        out.numbers(numbers_of(handle));
+    } else {
+        out.opaque(handle);
+    }
 }
 
 // A handle, or that there is none (RFC 1813, section 2.6, post_op_fh3).
@@ -93,11 +102,42 @@ pub(crate) fn write_post_op_handle(out: &mut Output, handle: &Option<Opaque<'_>>
     match handle {
         None => out.u32(0),
         Some(handle) => {
-            let handle = handle.bytes();
-            out.numbers([1, handle.len() as u32]);
-            out.fixed(handle);
+            out.u32(1);
+            write_handle(out, handle);
         }
     }
+}
+
+// The numbers that are encoded as the length of these bytes and then as they are. Written so, a handle that was put together
+// from numbers needn't be laid down byte by byte first.
+#[inline(always)]
+fn numbers_of(bytes: &[u8]) -> [u32; 7]
+    requires { length bytes.now ≡ WORDS_BYTES }
+    ensures { numbers_text result ≡ opaque_text bytes.now }
+{
+    let (a, rest) = bytes.split_at(4);
+    let (b, rest) = rest.split_at(4);
+    let (c, rest) = rest.split_at(4);
+    let (d, rest) = rest.split_at(4);
+    let (e, f) = rest.split_at(4);
+    [
+        WORDS_BYTES as u32,
+        word(a),
+        word(b),
+        word(c),
+        word(d),
+        word(e),
+        word(f),
+    ]
+}
+
+// The number that is encoded as these bytes.
+#[inline(always)]
+fn word(bytes: &[u8]) -> u32
+    requires { length bytes.now ≡ 4 }
+    ensures { to_be_bytes w32 result ≡ bytes.now }
+{
+    u32::from_be_bytes([bytes[0], bytes[1], bytes[2], bytes[3]])
 }
 
 // A name or a path.

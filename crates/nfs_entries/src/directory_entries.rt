@@ -82,6 +82,7 @@ impl DirectoryEntries {
     }
 
     /// The number of the file that the entry of a name names. `None` where no entry has the name.
+    #[inline(always)]
     pub fn number(&self, name: &[u8]) -> Option<Number>
         ensures { option_map (λ n. n.0) result ≡ number_named name.now self.now.entries }
     {
@@ -209,6 +210,7 @@ fn first_live<'a>(
 }
 
 // The index of the row of a name, and the number there.
+#[inline(always)]
 fn row_named(rows: &IndexMap<EntryName, EntryData>, name: &[u8]) -> Option<(usize, Number)>
     ensures found { IfSome result (λ f. IsRowOf rows.now.entries name.now f.0 f.1.0) }
     ensures none { IfNone result (HasNo rows.now.entries name.now) }

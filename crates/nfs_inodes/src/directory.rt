@@ -182,6 +182,7 @@ pub(crate) fn under_name(node: &Node, dir: Number, name: &[u8]) -> Option<Number
     }
 }
 
+#[inline(always)]
 fn named(entries: &DirectoryEntries, name: &[u8]) -> Option<Number>
     ensures { option_map (λ n. n.0) result ≡ number_named name.now entries.now.entries }
 {
