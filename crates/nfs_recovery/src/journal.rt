@@ -93,14 +93,21 @@ fn go_on<R: Files + Clock + Eprint>(
     cache: usize,
 ) -> Result<Server, Fault> {
     warn_of_places(rt, file.name(), head.cache, cache);
-    let recovered = recover(rt, alloc, file, head, life, text)?;
-    let Recovered {
-        mut server,
-        entries,
-        exports,
-        unfinished,
-    } = recovered;
-    let name = file.name();
+    let mut recovered = recover(rt, alloc, file, head, life, text)?;
+    settle(rt, alloc, file, text, &mut recovered)?;
+    let Recovered { server, .. } = recovered;
+    Ok(server)
+}
+
+// Has the file end with what was written whole, and the exports of the description in force. What was done is said.
+fn settle<R: Files + Eprint>(
+    rt: &R,
+    alloc: Global,
+    file: &mut JournalFile<'_, File>,
+    text: &LifeText,
+    recovered: &mut Recovered,
+) -> Result<(), Fault> {
+    let (name, entries, unfinished) = (file.name(), recovered.entries, recovered.unfinished);
     let _ = eprintln!(rt; "nfs3d: {name}: {entries} entries run again");
     if unfinished > 0 {
         file.cut()?;
@@ -108,12 +115,12 @@ fn go_on<R: Files + Clock + Eprint>(
             "nfs3d: warning: {name}: cut {unfinished} bytes after entry {entries}, which were not written whole and not answered"
         );
     }
-    if exports.as_slice() != text.heads.as_slice() {
-        server.set_exports(table_of(alloc, text)?);
+    if recovered.exports.as_slice() != text.heads.as_slice() {
+        recovered.server.set_exports(table_of(alloc, text)?);
         file.put_exports(rt, text.heads.as_slice())?;
         let _ = eprintln!(rt; "nfs3d: {name}: other exports are in force from here on");
     }
-    Ok(server)
+    Ok(())
 }
 
 // Warns where the words ask for another number of places for cached replies than a journal has.

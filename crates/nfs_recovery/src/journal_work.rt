@@ -15,6 +15,7 @@ use nfs_named::named::begin_life_of;
 use nfs_saving::key::key_of;
 use nfs_saving::saved_file::try_place;
 use nfs_saving::saving::save;
+use nfs_server::server::Server;
 use nfs_source::description::load_life;
 use nfs_source::diagnostic::Diagnostic;
 use nfs_source::fault::Fault;
@@ -163,19 +164,41 @@ where
 {
     try_place(rt, alloc, new)?;
     let mut file = JournalFile::open_to_read(rt, alloc, journal)?;
-    let head = head_of(&mut file)?;
-    let life = load_life(rt, alloc, tree)?;
-    let text = LifeText::of(alloc, &life.loaded)?;
     let Recovered {
         server,
         entries,
         ..
-    } = recover(rt, alloc, &mut file, head, life, &text)?;
+    } = run_again(rt, alloc, &mut file, tree)?;
+    let done = save_compacted(rt, alloc, key, new, &server, entries);
+    forget(server);
+    done
+}
+
+// The server of a description after all entries of its journal.
+fn run_again<R: Files<File = File> + Input + Eprint + Clock>(
+    rt: &R,
+    alloc: Global,
+    file: &mut JournalFile<'_, File>,
+    tree: &str,
+) -> Result<Recovered, Diagnostic> {
+    let head = head_of(file)?;
+    let life = load_life(rt, alloc, tree)?;
+    let text = LifeText::of(alloc, &life.loaded)?;
+    Ok(recover(rt, alloc, file, head, life, &text)?)
+}
+
+// Writes the description of the tree of a server that ran so many entries again. What is printed.
+fn save_compacted<R: Files + RandomSource>(
+    rt: &R,
+    alloc: Global,
+    key: Option<&str>,
+    new: &str,
+    server: &Server,
+    entries: u64,
+) -> Result<String, Diagnostic> {
     let key = key_of(rt, alloc, key)?;
     let line = format!(in alloc; "compacted {entries} entries into {new}\n")?;
-    let saved = save(rt, alloc, new, &server, Some(key));
-    forget(server);
-    saved?;
+    save(rt, alloc, new, server, Some(key))?;
     Ok(line)
 }
 

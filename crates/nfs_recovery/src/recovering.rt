@@ -47,19 +47,29 @@ pub(crate) fn recover<R: Eprint + Clock>(
     life: Life,
     text: &LifeText,
 ) -> Result<Recovered, Fault> {
-    let Life { loaded, key } = life;
-    if let Some(fault) = fault_of_life(head, key, text) {
-        let fault = with_lines(alloc, file, fault, text)?;
-        return Err(file.fault(fault));
+    match fault_of_life(head, life.key, text) {
+        None => recover_life(rt, alloc, file, head, life),
+        Some(fault) => Err(refusal(alloc, file, fault, text)),
     }
+}
+
+// The same where the journal is that of this life.
+fn recover_life<R: Eprint + Clock>(
+    rt: &R,
+    alloc: Global,
+    file: &mut JournalFile<'_, File>,
+    head: Head,
+    life: Life,
+) -> Result<Recovered, Fault> {
+    let Life { loaded, key } = life;
     let cache = (head.cache as usize).clamp(1, 1024);
     let mut server = open_server(alloc, loaded, key, head.next, cache)?;
-    let (entries, exports) = rerun(rt, alloc, file, &mut server)?;
+    let (entries, exports, unfinished) = rerun(rt, alloc, file, &mut server)?;
     Ok(Recovered {
         server,
         entries,
         exports,
-        unfinished: file.len()?.saturating_sub(file.end()),
+        unfinished,
     })
 }
 
@@ -71,6 +81,19 @@ fn fault_of_life(head: Head, key: [u8; 8], text: &LifeText) -> Option<JournalFau
         Some(JournalFault::OtherDescription)
     } else {
         None
+    }
+}
+
+// That fault of the file.
+fn refusal(
+    alloc: Global,
+    file: &mut JournalFile<'_, File>,
+    fault: JournalFault,
+    text: &LifeText,
+) -> Fault {
+    match with_lines(alloc, file, fault, text) {
+        Ok(fault) => file.fault(fault),
+        Err(fault) => fault,
     }
 }
 
@@ -94,13 +117,14 @@ fn with_lines(
     }
 }
 
-// Runs all entries again. How many there are, and the lines of the exports that the journal has last.
+// Runs all entries again. How many there are, the lines of the exports that the journal has last, and how many bytes stand
+// after the last entry.
 fn rerun<R: Eprint + Clock>(
     rt: &R,
     alloc: Global,
     file: &mut JournalFile<'_, File>,
     server: &mut Server,
-) -> Result<(u64, Vec<u8>), Fault> {
+) -> Result<(u64, Vec<u8>, u64), Fault> {
     let mut rerunning = Rerunning {
         rt,
         alloc,
@@ -113,12 +137,13 @@ fn rerun<R: Eprint + Clock>(
         reported: 0,
     };
     file.read_entries(&mut rerunning)?;
+    let unfinished = file.len()?.saturating_sub(file.end());
     let Rerunning {
         recovery,
         exports,
         ..
     } = rerunning;
-    Ok((recovery.entries(), exports))
+    Ok((recovery.entries(), exports, unfinished))
 }
 
 // Runs entries again.
