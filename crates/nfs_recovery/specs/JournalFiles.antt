@@ -1,5 +1,5 @@
 -- The file of a journal, as it is read and written.
-use Rattle.std.specs.Prelude.{◌≡◌, ◌⊎◌, ℕ, ◌+◌, ◌-◌, ◌^◌, min, true, List, [], ◌∷◌, ◌++◌, drop, length, Option}
+use Rattle.std.specs.Prelude.{◌≡◌, ◌≢◌, ◌⊎◌, ℕ, ◌+◌, ◌-◌, ◌^◌, ◌≤◌, min, true, List, [], ◌∷◌, ◌++◌, drop, length, Option, None}
 use Rattle.nfs_journal.specs.Blocks.{AreBlocks, Block, block_text, blocks_text, header_of, is_allowed}
 use Rattle.nfs_journal.specs.NextBlock.{AreZeros, IsNext, IsTorn, OfLeft}
 use Rattle.nfs_journal.specs.declared.block.BlockKind.{BlockKind}
@@ -73,3 +73,53 @@ pub record ReadsAll {E : Type 0} (entries exports : E → List ℕ → E → Typ
   pub rest : Option (List ℕ)
   pub reads : ReadsBlocks entries exports number left old new rest next
   pub end : OfLeft (IsEnd next) rest
+
+-- ---- what is at fault
+
+-- entries are at fault, by the reader's own offsets: it took them, and what stands after the last is not whole; or it stopped at one
+abbrev pub EntriesBreak : {E : Type 0} → (E → List ℕ → E → Type 0) → (E → List ℕ → BrokenEntry → E → Type 0)
+    → (count ends_at rest : E → ℕ) → E → List ℕ → BrokenEntry → E → Type 0
+EntriesBreak entries stops count ends_at rest old bytes fault new =
+    (entries old bytes new × (rest new ≢ 0) × (fault ≡ damaged_at (count new) (ends_at new))) ⊎ stops old bytes fault new
+
+-- exports are at fault: they are no lines with their checksum, or the reader refused the lines
+abbrev pub ExportsBreak : {E : Type 0} → (E → List ℕ → E → Type 0) → E → List ℕ → E → Type 0
+ExportsBreak refused old bytes new =
+    (((lines : List ℕ) → checked lines ≢ bytes) × (new ≡ old)) ⊎ ((lines : List ℕ) × (checked lines ≡ bytes) × refused old lines new)
+
+-- A block whose header begins at this offset is at fault: of entries one, at its place in the file; exports, at the place of the block. A
+-- description never is.
+abbrev pub BreaksBlock : {E : Type 0} → (E → List ℕ → BrokenEntry → E → Type 0) → (E → List ℕ → E → Type 0) → (count ends_at : E → ℕ)
+    → ℕ → BlockKind → List ℕ → E → BrokenEntry → E → Type 0
+BreaksBlock stops refused count ends_at offset Entries bytes old broken new =
+    (fault : BrokenEntry) × stops old bytes fault new × (broken ≡ placed_in offset (ends_at old) fault)
+BreaksBlock stops refused count ends_at offset Exports bytes old broken new =
+    ExportsBreak refused old bytes new × (broken ≡ damaged_at (count new) offset)
+BreaksBlock stops refused count ends_at offset Description bytes old broken new = ⊥
+
+-- what stands there is neither a block of this number nor the end; or no number of 64 bits comes after this one
+abbrev pub IsNoBlock : ℕ → Option (List ℕ) → Type 0
+IsNoBlock number left = IsNext Damaged number left [] None ⊎ (2 ^ 64 ≤ number + 1)
+
+-- what is next is at fault, at this offset: it is no block, and is reported as damaged; or a block stands whole, and has this fault
+abbrev pub BreaksNext : {E : Type 0} → (ℕ → BlockKind → List ℕ → E → BrokenEntry → E → Type 0) → (E → ℕ)
+    → ℕ → ℕ → Option (List ℕ) → E → BrokenEntry → E → Type 0
+BreaksNext breaks count number offset left old broken new =
+    (IsNoBlock number left × (new ≡ old) × (broken ≡ damaged_at (count new) offset))
+    ⊎ ((kind : BlockKind) × (bytes : List ℕ) × (after : Option (List ℕ)) × IsNext (Whole kind) number left bytes after
+    × breaks offset kind bytes old broken new)
+
+-- where blocks end of which the first begins at this offset
+abbrev pub end_after : ℕ → List Block → ℕ
+end_after offset [] = offset
+end_after offset (b ∷ after) = end_after (capped (offset + (20 + length b.bytes))) after
+
+-- A reader took blocks that stand one after another, and what is next is at fault, with this number and at this offset.
+pub record BreaksAfter {E : Type 0} (entries exports : E → List ℕ → E → Type 0)
+    (breaks : ℕ → BlockKind → List ℕ → E → BrokenEntry → E → Type 0) (count : E → ℕ)
+    (number offset : ℕ) (left : Option (List ℕ)) (old new : E) (broken : BrokenEntry) (next end : ℕ) : Type 0 where
+  pub between : E
+  pub rest : Option (List ℕ)
+  pub reads : ReadsBlocks entries exports number left old between rest next
+  pub end_is : end ≡ end_after offset reads.blocks
+  pub fault : BreaksNext breaks count next end rest between broken new

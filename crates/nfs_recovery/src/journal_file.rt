@@ -1,9 +1,11 @@
 //! The file of a journal.
-ghost use Rattle.std.specs.Prelude.{◌≡◌, ◌≤◌, ◌<◌, ◌+◌, ◌-◌, ◌^◌, ℕ, List, None, length, IfOk, IfSome, IsTrue, OnOk, drop, false, ◌++◌};
-ghost use Rattle.nfs_recovery.specs.JournalFiles.{AllTaken, ReadsAll, StandsNext, TakesBlock, capped, damaged_at, placed_in};
+ghost use Rattle.std.specs.Prelude.{◌≡◌, ◌≤◌, ◌<◌, ◌+◌, ◌-◌, ◌^◌, ℕ, List, None, length, IfErr, IfOk, IfSome, IsFalse, IsTrue, OnOk, drop, false, ◌++◌};
+ghost use Rattle.nfs_recovery.specs.JournalFiles.{AllTaken, BreaksAfter, BreaksBlock, EntriesBreak, ExportsBreak};
+ghost use Rattle.nfs_recovery.specs.JournalFiles.{ReadsAll, StandsNext, TakesBlock, capped, damaged_at, placed_in};
 ghost use Rattle.nfs_journal.specs.Blocks.{block_text};
 ghost use Rattle.nfs_journal.specs.Heads.{head_record};
 ghost use Rattle.nfs_journal.specs.NextBlock.{AreZeros};
+ghost use Rattle.nfs_journal.specs.declared.broken_entry.BrokenEntry.{BrokenEntry};
 ghost use Rattle.nfs_server.specs.Entries.{checked};
 ghost use Rattle.nfs_source.specs.Status.{status_of};
 ghost use Rattle.nfs_xdr.specs.Known.{Grows, Shrinks};
@@ -34,30 +36,42 @@ pub(crate) trait EntryReader {
     /// That it took entries, of which the last may be unfinished.
     ghost entries_taken: { Self → List ℕ → Self → Type 0 };
 
+    /// That it took entries up to one that is at fault.
+    ghost stops: { Self → List ℕ → BrokenEntry → Self → Type 0 };
+
     /// That it took the first lines of a description.
     ghost exports_taken: { Self → List ℕ → Self → Type 0 };
+
+    /// That it refused lines, which are no such ones.
+    ghost exports_refused: { Self → List ℕ → Self → Type 0 };
 
     /// How many entries were read.
     ghost count: { Self → ℕ };
 
-    /// How many bytes stand after the last of them.
+    /// The offset after the last of them.
+    ghost ends_at: { Self → ℕ };
+
+    /// How many bytes stand after it.
     ghost rest: { Self → ℕ };
 
     /// Takes the first lines of a description, whose exports are in force for the entries that follow. Whether they are
     /// such lines; `Memory`.
     fn take_exports(&mut self, text: &[u8]) -> Result<bool, Fault>
-        ensures { IfOk result (λ is. IsTrue is → exports_taken self.old text.now self.new) };
+        ensures taken { IfOk result (λ is. IsTrue is → exports_taken self.old text.now self.new) }
+        ensures refused { IfOk result (λ is. IsFalse is → exports_refused self.old text.now self.new) };
 
     /// Takes the bytes of the next block. The first entry that is at fault, with which nothing more is read.
     fn take(&mut self, bytes: &[u8]) -> Result<(), BrokenEntry>
-        ensures { OnOk result (entries_taken self.old bytes.now self.new) };
+        ensures taken { OnOk result (entries_taken self.old bytes.now self.new) }
+        ensures stops { IfErr result (λ broken. stops self.old bytes.now broken self.new) };
 
     /// How many entries were read.
     fn entries(&self) -> u64
         ensures { result ≡ count self.now };
 
     /// The offset after the last of them, among the bytes of entries alone.
-    fn end(&self) -> u64;
+    fn end(&self) -> u64
+        ensures { result ≡ ends_at self.now };
 
     /// How many bytes stand after the last of them.
     fn unfinished(&self) -> u64
@@ -230,8 +244,11 @@ impl<'a, F: Read + Write + OpenFile> JournalFile<'a, F> {
         &mut self,
         entries: &mut E,
     ) -> Result<Option<BrokenEntry>, Fault>
-        ensures { IfOk result (λ broken. broken ≡ None → ReadsAll (AllTaken E.entries_taken E.rest) E.exports_taken self.old.next
+        ensures all { IfOk result (λ broken. broken ≡ None → ReadsAll (AllTaken E.entries_taken E.rest) E.exports_taken self.old.next
             (F.remaining self.old.file) entries.old entries.new self.new.next) }
+        ensures breaks { IfOk result (λ found. IfSome found (λ broken. BreaksAfter (AllTaken E.entries_taken E.rest) E.exports_taken
+            (BreaksBlock (EntriesBreak E.entries_taken E.stops E.count E.ends_at E.rest) E.exports_refused E.count E.ends_at) E.count
+            self.old.next self.old.end (F.remaining self.old.file) entries.old entries.new broken self.new.next self.new.end)) }
     {
         let mut bytes = Vec::new(self.alloc);
         while self.next < u64::MAX {
@@ -256,7 +273,11 @@ impl<'a, F: Read + Write + OpenFile> JournalFile<'a, F> {
         bytes: &[u8],
         entries: &mut E,
     ) -> Result<Option<BrokenEntry>, Fault>
-        ensures { IfOk result (λ broken. broken ≡ None → TakesBlock (AllTaken E.entries_taken E.rest) E.exports_taken kind bytes.now entries.old entries.new) }
+        ensures takes { IfOk result (λ broken. broken ≡ None → TakesBlock (AllTaken E.entries_taken E.rest) E.exports_taken kind bytes.now
+            entries.old entries.new) }
+        ensures breaks { IfOk result (λ found. IfSome found (λ broken.
+            BreaksBlock (EntriesBreak E.entries_taken E.stops E.count E.ends_at E.rest) E.exports_refused E.count E.ends_at
+            self.now.end kind bytes.now entries.old broken entries.new)) }
     {
         let is_whole = match kind {
             BlockKind::Entries => return Ok(self.hand_on_entries(bytes, entries)),
@@ -273,7 +294,9 @@ impl<'a, F: Read + Write + OpenFile> JournalFile<'a, F> {
 
     // Has entries taken. The first that is at fault, if one is: one that is not whole where its block ends is.
     fn hand_on_entries<E: EntryReader>(&self, bytes: &[u8], entries: &mut E) -> Option<BrokenEntry>
-        ensures { result ≡ None → AllTaken E.entries_taken E.rest entries.old bytes.now entries.new }
+        ensures takes { result ≡ None → AllTaken E.entries_taken E.rest entries.old bytes.now entries.new }
+        ensures breaks { IfSome result (λ broken. (fault : BrokenEntry) × EntriesBreak E.entries_taken E.stops E.count E.ends_at E.rest
+            entries.old bytes.now fault entries.new × (broken ≡ placed_in self.now.end (E.ends_at entries.old) fault)) }
     {
         let start = entries.end();
         let broken = match entries.take(bytes) {
@@ -525,7 +548,9 @@ fn damaged_entry(entries: u64, offset: u64) -> BrokenEntry
 
 // Has the lines of exports taken. Whether their checksum is right, and they are such lines.
 fn hand_on_exports<E: EntryReader>(bytes: &[u8], entries: &mut E) -> Result<bool, Fault>
-    ensures { IfOk result (λ is. IsTrue is → TakesBlock (AllTaken E.entries_taken E.rest) E.exports_taken BlockKind.Exports bytes.now entries.old entries.new) }
+    ensures takes { IfOk result (λ is. IsTrue is → TakesBlock (AllTaken E.entries_taken E.rest) E.exports_taken BlockKind.Exports bytes.now
+        entries.old entries.new) }
+    ensures breaks { IfOk result (λ is. IsFalse is → ExportsBreak E.exports_refused entries.old bytes.now entries.new) }
 {
     match decode_lines(bytes) {
         Some(lines) => entries.take_exports(lines),

@@ -1,6 +1,6 @@
 //! `nfs3d journal`, and a journal that is run again.
-ghost use Rattle.std.specs.Prelude.{◌≡◌};
-ghost use Rattle.nfs_journal.specs.Scanning.{Scans};
+ghost use Rattle.std.specs.Prelude.{◌≡◌, ◌+◌, ◌^◌, ◌<◌, None, length};
+ghost use Rattle.nfs_journal.specs.Scanning.{Scans, StopsScan};
 
 use crate::journal_file::{EntryReader, JournalFile};
 use crate::life_text::LifeText;
@@ -95,9 +95,16 @@ fn head_of(file: &mut JournalFile<'_, File>) -> Result<Head, Fault> {
 impl EntryReader for Scan {
     ghost entries_taken = { λ old bytes new. Scans bytes old new };
 
+    ghost stops = { λ old bytes broken new. old.broken ≡ None → old.end + old.unfinished + length bytes + 1 < 2 ^ 64
+        → StopsScan broken bytes old new };
+
     ghost exports_taken = { λ old lines new. new ≡ old };
 
+    ghost exports_refused = { λ old lines new. ⊥ };
+
     ghost count = { λ s. s.entries };
+
+    ghost ends_at = { λ s. s.end };
 
     ghost rest = { λ s. s.unfinished };
 

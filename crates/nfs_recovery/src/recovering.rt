@@ -1,7 +1,9 @@
 //! A server becomes again what it was, by its journal.
-ghost use Rattle.std.specs.Prelude.{◌≡◌, Ok};
-ghost use Rattle.nfs_journal.specs.Recovering.{Advances};
+ghost use Rattle.std.specs.Prelude.{◌≡◌, ◌+◌, ◌^◌, ◌<◌, ℕ, Err, None, Ok, length};
+ghost use Rattle.nfs_journal.specs.Recovering.{Advances, Stops};
 ghost use Rattle.nfs_load.specs.Descriptions.{Describes};
+ghost use Rattle.nfs_load.specs.declared.cause.Cause.{Cause};
+ghost use Rattle.nfs_load.specs.declared.load_error.LoadError.TheVariants as error;
 ghost use Rattle.nfs_load.specs.declared.loaded.Loaded.{Loaded as Read};
 ghost use Rattle.nfs_server.specs.Fits.{with_exports};
 
@@ -167,10 +169,19 @@ struct Rerunning<'a, R> {
 impl<R: Eprint + Clock> EntryReader for Rerunning<'_, R> {
     ghost entries_taken = { λ old bytes new. Advances bytes old.recovery new.recovery old.server.now new.server.now };
 
+    ghost stops = { λ old bytes broken new. old.recovery.broken ≡ None
+        → old.recovery.end + old.recovery.unfinished + length bytes + 1 < 2 ^ 64
+        → Stops broken bytes old.recovery new.recovery old.server.now new.server.now };
+
     ghost exports_taken = { λ old lines new. (loaded : Read) × Describes lines (Ok loaded)
         × (new.server.now ≡ with_exports loaded.table old.server.now) × (new.recovery ≡ old.recovery) };
 
+    ghost exports_refused = { λ old lines new. (number : ℕ) × (cause : Cause) × Describes lines (Err (error.Fault number cause))
+        × (new ≡ old) };
+
     ghost count = { λ it. it.recovery.entries };
+
+    ghost ends_at = { λ it. it.recovery.end };
 
     ghost rest = { λ it. it.recovery.unfinished };
 
