@@ -94,13 +94,13 @@ fn go_on<R: Files + Clock + Eprint>(
 ) -> Result<Server, Fault> {
     warn_of_places(rt, file.name(), head.cache, cache);
     let mut recovered = recover(rt, alloc, file, head, life, text)?;
-    settle(rt, alloc, file, text, &mut recovered)?;
+    bring_up_to_date(rt, alloc, file, text, &mut recovered)?;
     let Recovered { server, .. } = recovered;
     Ok(server)
 }
 
 // Has the file end with what was written whole, and the exports of the description in force. What was done is said.
-fn settle<R: Files + Eprint>(
+fn bring_up_to_date<R: Files + Eprint>(
     rt: &R,
     alloc: Global,
     file: &mut JournalFile<'_, File>,
