@@ -28,9 +28,9 @@ use std::time::Clock;
 const RUN_BYTES: usize = 65_536;
 
 /// Runs a script over a description, and saves the tree as it then is where the words ask for it; or plays it against
-/// a running server (`replay_live`), or runs a journal again (`rerun_journal`). The faults of `Copies::of`, `NamedTree::read` and `Copies::save_last`; `CannotRead`
-/// and `TooLong` where the script can't be read, `Script` with its first faulty line, `Write` and `Closed` where the
-/// output fails, `Memory`.
+/// a running server (`replay_live`), or runs a journal again (`rerun_journal`). The faults of `Copies::of`,
+/// `NamedTree::load` and `Copies::save_last`; `CannotRead` and `TooLong` where the script can't be read, `Script` with
+/// its first faulty line, `Write` and `Closed` where the output fails, `Memory`.
 pub fn replay_files<R>(rt: &R, alloc: Global, words: Replay<'_, '_>) -> Result<ExitCode, Diagnostic>
 where
     R: Files<File = File>
@@ -45,13 +45,32 @@ where
     if let Some(port) = words.port() {
         return replay_live(rt, alloc, words, port);
     }
-    if let Some(name) = words.journal() {
-        return rerun_journal(rt, alloc, words.tree(), name);
+    match words.journal() {
+        Some(name) => rerun_journal(rt, alloc, words.tree(), name),
+        None => replay_and_save(rt, alloc, words),
     }
+}
+
+// Runs a script over a description, and saves the tree as it then is where the words ask for it.
+fn replay_and_save<R>(rt: &R, alloc: Global, words: Replay<'_, '_>) -> Result<ExitCode, Diagnostic>
+where
+    R: Files<File = File> + Input + Print + Eprint + RandomSource + AllocGlobal,
+{
     let copies = Copies::of(rt, alloc, words.save(), words.key())?;
     let loaded = NamedTree::load(rt, alloc, words.tree())?;
+    replay_loaded(rt, alloc, loaded, words, &copies)
+}
+
+// The same over what was loaded.
+fn replay_loaded<R: Files + Input + Print + Eprint + RandomSource>(
+    rt: &R,
+    alloc: Global,
+    loaded: Loaded,
+    words: Replay<'_, '_>,
+    copies: &Copies<'_>,
+) -> Result<ExitCode, Diagnostic> {
     match Source::read(rt, alloc, words.script()) {
-        Ok(script) => replay_script(rt, alloc, loaded, &script, words, &copies),
+        Ok(script) => replay_script(rt, alloc, loaded, &script, words, copies),
         Err(fault) => {
             forget(loaded);
             Err(fault.into())
