@@ -14,6 +14,7 @@ use nfs_lines::lines::Lines;
 use nfs_listening::addresses::{addresses_of, has_metrics_address, most_open};
 use nfs_listening::line_files::{audit_file, output, wording_of};
 use nfs_listening::listening::{Listening, fault_of};
+use nfs_listening::registration::Registration;
 use nfs_loop::attendant::Attendant;
 use nfs_loop::limits::Limits;
 use nfs_loop::network::Network;
