@@ -373,7 +373,10 @@ impl<'a> Served<'a> {
         match service.serve(rt, server, net, lines, attendant, journal) {
             Ok(()) if lines.lost_some() => Err(Fault::Write),
             Ok(()) => Ok(()),
-            Err(ServingFault::Network(error)) => Err(fault_of(self.listening.address(), error.into())),
+            Err(ServingFault::Network(error)) => Err(fault_of(
+                self.listening.address(),
+                error.into(),
+            )),
             Err(ServingFault::Journal(_)) => Err(self.journal_fault(journal)),
         }
     }

@@ -16,11 +16,7 @@ pub struct Registration {
 
 impl Registration {
     /// Registers both at a port. Where the second is not registered, the first isn't either.
-    pub fn at<R: Net>(
-        rt: &R,
-        alloc: Global,
-        port: u16,
-    ) -> Result<Registration, PortmapFault> {
+    pub fn at<R: Net>(rt: &R, alloc: Global, port: u16) -> Result<Registration, PortmapFault> {
         let mut portmapper = Portmapper::reach(rt, alloc)?;
         portmapper.change(Change::Set, mapping(NFS_PROGRAM, port))?;
         match portmapper.change(Change::Set, mapping(MOUNT_PROGRAM, port)) {
