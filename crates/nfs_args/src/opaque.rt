@@ -17,8 +17,8 @@ use std::marker::Model;
 /// NFS3_COOKIEVERFSIZE).
 const VERIFIER_BYTES: usize = 8;
 
-// How many bytes a handle has that is written as numbers: those of this server have as many.
-const WORDS_BYTES: usize = 24;
+// How many bytes the handles of this server have, which are written as numbers.
+const OWN_HANDLE_BYTES: usize = 24;
 
 /// Bytes of a record, without their length and their padding. Contracts see them as a list.
 #[derive(Drop)]
@@ -84,7 +84,7 @@ pub(crate) fn write_handle(out: &mut Output, handle: &Opaque<'_>)
     ensures encoded { IsHandle handle.now (opaque_text handle.now) }
 {
     let handle = handle.bytes();
-    if handle.len() == WORDS_BYTES {
+    if handle.len() == OWN_HANDLE_BYTES {
         out.numbers(numbers_of(handle));
     } else {
         out.opaque(handle);
@@ -112,7 +112,7 @@ pub(crate) fn write_post_op_handle(out: &mut Output, handle: &Option<Opaque<'_>>
 // from numbers needn't be laid down byte by byte first.
 #[inline(always)]
 fn numbers_of(bytes: &[u8]) -> [u32; 7]
-    requires { length bytes.now ≡ WORDS_BYTES }
+    requires { length bytes.now ≡ OWN_HANDLE_BYTES }
     ensures { numbers_text result ≡ opaque_text bytes.now }
 {
     let (a, rest) = bytes.split_at(4);
@@ -121,7 +121,7 @@ fn numbers_of(bytes: &[u8]) -> [u32; 7]
     let (d, rest) = rest.split_at(4);
     let (e, f) = rest.split_at(4);
     [
-        WORDS_BYTES as u32,
+        OWN_HANDLE_BYTES as u32,
         word(a),
         word(b),
         word(c),

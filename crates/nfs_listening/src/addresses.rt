@@ -5,7 +5,8 @@ use nfs_lines::rule_names::first_unknown;
 use std::alloc::{AllocError, Global};
 use std::net::{IpAddr, Ipv4Addr, SocketAddr};
 
-/// The addresses that are listened at; none, which is reported, where a word is faulty.
+/// The addresses that the words ask to listen at, in their order; none, which is reported on standard error, where one
+/// of them is no address, or a rule of `--audit-skip` is unknown. Refused without memory.
 pub fn addresses_of<R: Eprint>(
     rt: &R,
     alloc: Global,
@@ -27,7 +28,8 @@ pub fn addresses_of<R: Eprint>(
     Ok(Some(addresses))
 }
 
-/// Whether metrics are asked for at an address, if they are; it is reported where they aren't.
+/// Whether what the words give for metrics is an address with a port, if they give anything. Where it isn't, that is
+/// reported on standard error.
 pub fn has_metrics_address<R: Eprint>(rt: &R, words: Serve<'_, '_>) -> bool {
     match words.metrics() {
         Some(text) if text.parse::<SocketAddr>().is_err() => {
@@ -40,7 +42,7 @@ pub fn has_metrics_address<R: Eprint>(rt: &R, words: Serve<'_, '_>) -> bool {
     }
 }
 
-/// The first address that other machines can reach; where there is none, the first.
+/// The first address that other machines can reach; where there is none, the first; of no addresses, 127.0.0.1.
 pub fn most_open(addresses: &[IpAddr]) -> IpAddr {
     for address in addresses {
         if !address.is_loopback() {

@@ -78,12 +78,12 @@ impl Listening {
         }
     }
 
-    /// The listener for metrics, if there is one that nobody took.
+    /// The listener for metrics, if the words ask for one; once it was taken, none.
     pub fn take_metrics(&mut self) -> Option<TcpListener> {
         self.metrics.take()
     }
 
-    /// Tells the portmapper of the first address, if there is one. `Unregistered` where it can't be told.
+    /// Registers the port of the first address with the portmapper, if there is one. `Unregistered` where that fails.
     pub fn register<R: Net>(&self, rt: &R) -> Result<Option<Registration>, Fault> {
         let Some(local) = self.locals.first() else {
             return Ok(None);
@@ -94,7 +94,7 @@ impl Listening {
         }
     }
 
-    /// Says where it listens, and where the metrics are.
+    /// Writes a line for each address that it listens on, and one for the metrics. Refused without memory.
     pub fn announce<R: Clock + Log, A: LineOut, C: LineOut>(
         &self,
         rt: &R,
@@ -109,7 +109,8 @@ impl Listening {
         }
     }
 
-    /// The first lines of the status of a service: its version, and the addresses that it listens on.
+    /// The first lines of the status of a service: its version, and the addresses that it listens on. Refused without
+    /// memory.
     pub fn first_lines(&self) -> Result<String, AllocError> {
         let mut lines = format!(in self.alloc; "version {VERSION}\n")?;
         for local in &self.locals {

@@ -15,7 +15,8 @@ pub struct Registration {
 }
 
 impl Registration {
-    /// Registers both at a port. Where the second is not registered, the first isn't either.
+    /// Registers both at a port. The faults of `Portmapper::reach` and `Portmapper::change`. Where the second is not
+    /// registered, the first isn't either.
     pub fn at<R: Net>(rt: &R, alloc: Global, port: u16) -> Result<Registration, PortmapFault> {
         let mut portmapper = Portmapper::reach(rt, alloc)?;
         portmapper.change(Change::Set, mapping(NFS_PROGRAM, port))?;
