@@ -1,15 +1,16 @@
 -- Which slots are vacant, and what becomes of them where one slot changes.
-use Rattle.std.proofs.Common.{◌≡◌, ◌≢◌, ℕ, zero, suc, ◌+◌, ◌<◌, ◌≤◌, cond, List, [], ◌∷◌, ◌++◌, length, get_or, set, Result, Ok, OnOk, Option, Some, None, IsSome, IfSome, IfNone, is_some, nat_eq, nat_lt, nat_cmp, count_by, slice_get, IsPermutation, sym, ap, subst, refl, ◌∙◌, true≢false, ltb-true, ltb-false, eq-eqb, length-set, get_or-set_same, get_or-set_other, arith}
+use Rattle.std.proofs.Common.{◌≡◌, ◌≢◌, ℕ, zero, suc, ◌+◌, ◌-◌, ◌<◌, ◌≤◌, cond, List, [], ◌∷◌, ◌++◌, length, append-nil, get_or, set, Result, Ok, OnOk, Option, Some, None, IsSome, IfSome, IfNone, is_some, nat_eq, nat_lt, nat_cmp, count_by, slice_get, IsPermutation, sym, ap, subst, refl, ◌∙◌, true≢false, ltb-true, ltb-false, eq-eqb, length-set, get_or-set_same, get_or-set_other, arith}
 use Rattle.std.specs.BinaryHeap.{IsHeap, IsUpperBound, KeepsHeap, PopsGreatest}
-use Rattle.std.specs.List.{AllByRecursion}
+use Rattle.std.specs.List.{AllByRecursion, filter}
 use Rattle.std.specs.declared.cmp.Reverse.{Reverse}
 use Rattle.std.proofs.HeapSift.{at_most}
 use Rattle.std.proofs.lemmas.List.{get_or_default, get_or_past, get_or_push, get_or_append_left, length_push}
 use Rattle.std.proofs.lemmas.List.Sums.{sum_by-cons, sum_by-set, sum_by_push, get_or-le-sum_by, count_by-le-length}
-use Rattle.std.proofs.lemmas.List.Sorted.{sum_by_pushed, sum_by_popped, length_permutation}
-use Rattle.std.proofs.lemmas.Option.{slice_get-get_or, slice_get_within, get_or_from_slice_get}
-use Rattle.nfs_handles.specs.SlotList.{SlotList, get, with_value, IsNextSlot, Updates}
-use Rattle.nfs_handles.specs.VacantSlots.{times, vacancies, HasVacant}
+use Rattle.std.proofs.lemmas.List.Sorted.{sum_by_pushed, sum_by_popped, sum_by-IsPermutation, length_permutation}
+use Rattle.std.specs.Option.{option_to_list}
+use Rattle.std.proofs.lemmas.Option.{slice_get-get_or, get_or_from_slice_get}
+use Rattle.nfs_handles.specs.SlotList.{SlotList, AllHeld, get, with_value, IsNextSlot, Updates}
+use Rattle.nfs_handles.specs.VacantSlots.{times, vacancies, EndsHeld, HasVacant, Pops, PopsVacant}
 use Rattle.nfs_handles.proofs.Leading.{by_test, by_number, not_equal, if_true, if_false}
 
 pub none_left : (n : ℕ) → (0 < n → ⊥) → n ≡ 0
@@ -55,6 +56,34 @@ module _ {X : Type 0} where
   pub held_in : (slots : List (Option X)) (slot : ℕ) (o : Option X) → slot < length slots → o ≡ get_or slots slot o → IsSome o → IsSome (get_or slots slot None)
   held_in slots slot o within read some = subst IsSome (read ∙ get_or_default slots slot o None within) some
 
+  -- the last slot goes, which is vacant
+  pub pops_one : (slots left news : List (Option X)) (r : Option (Option X)) → left ≡ news ++ option_to_list r → slice_get left (length left - 1) ≡ Some None → Pops slots left → Pops slots news
+  pops_one slots left news None is none p = subst (Pops slots) (is ∙ append-nil news) p
+  pops_one slots left news (Some o) is none p =
+      let long : length left ≡ length news + 1 = ap length is ∙ length_push news o in
+      let nothing : o ≡ None = sym (get_or_push news o None (length left - 1) (omega (arith, long))) ∙ ap (λ l. get_or l (length left - 1) None) (sym is) ∙ get_or_from_slice_get left (length left - 1) None None none in
+      record {
+        fewer = omega (arith, long, p.fewer);
+        same = λ slot. one_less slot o nothing ∙ ap (λ l. get_or l slot None) (sym is) ∙ p.same slot;
+        count = let more : count_by is_some (news ++ o ∷ []) ≡ count_by is_some news + cond (is_some o) 1 0 = sum_by_push (λ o. cond (is_some o) 1 0) news o in
+            let whole : count_by is_some left ≡ count_by is_some (news ++ o ∷ []) = ap (count_by is_some) is in
+            let zero : count_by is_some (news ++ o ∷ []) ≡ count_by is_some news + 0 = more ∙ ap (λ (o : Option X). count_by is_some news + cond (is_some o) 1 0) nothing in
+            let so_far = p.count in
+            omega (arith, whole, zero, so_far);
+      }
+    where
+      one_less : (slot : ℕ) (o : Option X) → o ≡ None → get_or news slot None ≡ get_or (news ++ o ∷ []) slot None
+      one_less slot o nothing = by_test (nat_lt slot (length news))
+          (λ y. sym (get_or_append_left news (o ∷ []) None slot (ltb-true slot (length news) y)))
+          (λ n.
+          let from = ltb-false slot (length news) n in
+          get_or_past news slot None from ∙ by_number slot (length news)
+          (λ same. sym (get_or_push news o None slot (sym same) ∙ nothing))
+          (λ other. sym (get_or_past (news ++ o ∷ []) slot None (omega (arith, from, other, length_push news o)))))
+
+  pub no_pops : (slots : List (Option X)) → Pops slots slots
+  no_pops slots = record { fewer = omega arith; same = λ slot. refl; count = refl }
+
   slice_get-set_same : (xs : List X) (k : ℕ) (x : X) → k < length xs → slice_get (set xs k x) k ≡ Some x
   slice_get-set_same [] k x within = absurd (omega (arith, within))
   slice_get-set_same (y ∷ ys) zero x within = refl
@@ -97,6 +126,21 @@ first_stands top heap some first =
     let one : counts top.0 (get_or heap 0 top) ≡ 1 = counts_same top.0 (get_or heap 0 top) (ap (λ (r : Reverse ℕ). r.0) first) in
     omega (arith, one, get_or-le-sum_by (counts top.0) heap 0 top some)
 
+-- what is beyond the end doesn't count
+times_within : (end slot : ℕ) (heap : List (Reverse ℕ)) → slot < end → times slot (filter (λ (r : Reverse ℕ). nat_lt r.0 end) heap) ≡ times slot heap
+times_within end slot [] within = refl
+times_within end slot (r ∷ rs) within =
+    let rest = times_within end slot rs within in
+    by_test (nat_lt r.0 end)
+    (λ y. ap (times slot) (if_true (r ∷ kept) kept y) ∙ sum_by-cons (counts slot) r kept ∙ ap (λ n. counts slot r + n) rest ∙ sym (sum_by-cons (counts slot) r rs))
+    (λ n.
+    let beyond = ltb-false r.0 end n in
+    let none : counts slot r ≡ 0 = counts_other slot r (λ same. omega (arith, beyond, within, same)) in
+    ap (times slot) (if_false (r ∷ kept) kept n) ∙ rest ∙ (let all = sum_by-cons (counts slot) r rs in omega (arith, all, none)))
+  where
+    kept : List (Reverse ℕ)
+    kept = filter (λ (r : Reverse ℕ). nat_lt r.0 end) rs
+
 -- ---- what is vacant
 
 module _ {X : Type 0} where
@@ -124,10 +168,50 @@ module _ {X : Type 0} where
   none_vacant slots heap capacity no_slots no_heap order =
       subst (λ l. HasVacant l heap capacity) (sym no_slots) (record {
         least_first = order;
-        each_once = λ slot. ap (times slot) no_heap;
+        each_once = λ slot within. absurd (omega (arith, within));
         counted = let none = ap length no_heap in omega (arith, none);
         fits = omega arith;
+        last = λ slot is. absurd (omega (arith, is));
       })
+
+  no_vacancies : (slots : List (Option X)) → AllHeld slots → (slot : ℕ) → vacancies (slice_get slots slot) ≡ 0
+  no_vacancies [] all slot = refl
+  no_vacancies (o ∷ os) all zero = no_vacancy o (all zero (omega arith))
+  no_vacancies (o ∷ os) all (suc slot) = no_vacancies os (λ k within. all (suc k) (omega (arith, within))) slot
+
+  vacancies_push : (x : X) (xs : List (Option X)) (slot : ℕ) → vacancies (slice_get (xs ++ Some x ∷ []) slot) ≡ vacancies (slice_get xs slot)
+  vacancies_push x [] zero = refl
+  vacancies_push x [] (suc slot) = refl
+  vacancies_push x (o ∷ os) zero = refl
+  vacancies_push x (o ∷ os) (suc slot) = vacancies_push x os slot
+
+  -- the next value comes to the end, where all slots have one
+  pub next_at_end : (slots : List (Option X)) (memory slot : ℕ) → slot ≡ length slots → AllHeld slots → slot < memory → IsNextSlot (record { slots = slots; capacity = memory }) slot
+  next_at_end slots memory slot last all fits = record {
+    vacant = get_or_past slots slot None (omega (arith, last));
+    least = λ lesser less. all lesser (omega (arith, less, last));
+    fits = fits;
+  }
+
+  -- a value comes to the end
+  pub vacant_push : (slots : List (Option X)) (x : X) (heap : List (Reverse ℕ)) (capacity : ℕ) → AllHeld slots → heap ≡ [] → IsHeap (λ x y. nat_cmp y.0 x.0) heap → length slots < capacity → HasVacant (slots ++ Some x ∷ []) heap capacity
+  vacant_push slots x heap capacity all no_heap order fits =
+      let long : length (slots ++ Some x ∷ []) ≡ length slots + 1 = length_push slots (Some x) in
+      let more : count_by is_some (slots ++ Some x ∷ []) ≡ count_by is_some slots + 1 = sum_by_push holds slots (Some x) in
+      let none = ap length no_heap in
+      record {
+        least_first = order;
+        each_once = λ slot within. ap (times slot) no_heap ∙ sym (vacancies_push x slots slot ∙ no_vacancies slots all slot);
+        counted = omega (arith, none, more, fits, count_by-le-length is_some slots);
+        fits = omega (arith, long, fits);
+        last = λ slot is. ap is_some (get_or_push slots (Some x) None slot (omega (arith, is, long)));
+      }
+
+  -- the last slot has a value after any slot got one
+  last_valued : (slots : List (Option X)) (slot : ℕ) (x : X) → slot < length slots → EndsHeld slots → EndsHeld (set slots slot (Some x))
+  last_valued slots slot x within last k is = by_number k slot
+      (λ same. ap is_some (ap (λ k. get_or (set slots slot (Some x)) k None) same ∙ get_or-set_same slots slot (Some x) None within))
+      (λ other. ap is_some (get_or-set_other slots slot k (Some x) None other) ∙ last k (omega (arith, is, length-set slots slot (Some x))))
 
 module _ {X : Type 0} (slots : List (Option X)) (heap : List (Reverse ℕ)) (capacity : ℕ) (h : HasVacant slots heap capacity) where
   -- the heap may have memory for more
@@ -136,17 +220,18 @@ module _ {X : Type 0} (slots : List (Option X)) (heap : List (Reverse ℕ)) (cap
       subst (λ l. HasVacant l newheap more) (sym same) (subst (λ l. HasVacant slots l more) (sym same_heap) (record {
         least_first = h.least_first;
         each_once = h.each_once;
-        counted = h.counted;
+        counted = omega (arith, h.counted, le);
         fits = omega (arith, h.fits, le);
+        last = h.last;
       }))
 
-  -- what stands in the heap is vacant
-  vacant_there : (slot : ℕ) → 0 < times slot heap → slice_get slots slot ≡ Some None
-  vacant_there slot stands = is_vacant (slice_get slots slot) (subst (λ n. 0 < n) (h.each_once slot) stands)
+  -- what stands in the heap is vacant, where it is one of the slots
+  vacant_there : (slot : ℕ) → slot < length slots → 0 < times slot heap → slice_get slots slot ≡ Some None
+  vacant_there slot within stands = is_vacant (slice_get slots slot) (subst (λ n. 0 < n) (h.each_once slot within) stands)
 
   -- what is vacant stands in the heap
   stands_there : (slot : ℕ) → slot < length slots → get_or slots slot None ≡ None → times slot heap ≡ 1
-  stands_there slot within none = h.each_once slot ∙ ap vacancies (slice_get-get_or slots slot None within ∙ ap Some none)
+  stands_there slot within none = h.each_once slot within ∙ ap vacancies (slice_get-get_or slots slot None within ∙ ap Some none)
 
   -- below the least that stands there all have a value
   held_below : (low slot : ℕ) → AllByRecursion (λ r. low ≤ r.0) heap → slot < low → slot < length slots → IsSome (get_or slots slot None)
@@ -155,45 +240,34 @@ module _ {X : Type 0} (slots : List (Option X)) (heap : List (Reverse ℕ)) (cap
       let absent : times slot heap ≡ 0 = none_below low slot heap above less in
       omega (arith, stands, absent))
 
-  -- the next value comes into the slot at the top
-  pub next_at_top : (memory : ℕ) (top : Reverse ℕ) → 0 < length heap → top ≡ get_or heap 0 top → IsUpperBound (λ x y. nat_cmp y.0 x.0) top heap → length slots ≤ memory → IsNextSlot (record { slots = slots; capacity = memory }) top.0
-  next_at_top memory top some first bound fits =
-      let there : slice_get slots top.0 ≡ Some None = vacant_there top.0 (first_stands top heap some first) in
-      let within : top.0 < length slots = slice_get_within slots top.0 None there in
-      record {
-        vacant = get_or_from_slice_get slots top.0 None None there;
-        least = λ slot less. held_below top.0 slot (all_above top heap bound) less (omega (arith, less, within));
-        fits = omega (arith, within, fits);
-      }
-
-  -- or else it comes to the end
-  pub next_at_end : (memory slot : ℕ) → slot ≡ length slots → length heap ≡ 0 → slot < memory → IsNextSlot (record { slots = slots; capacity = memory }) slot
-  next_at_end memory slot last none fits = record {
-    vacant = get_or_past slots slot None (omega (arith, last));
-    least = λ lesser less. is_held (get_or slots lesser None) (λ vacant.
-        let stands : times lesser heap ≡ 1 = stands_there lesser (omega (arith, less, last)) vacant in
-        omega (arith, stands, count_by-le-length (λ (r : Reverse ℕ). nat_eq lesser r.0) heap, none));
-    fits = fits;
+  -- the next value comes into the slot at the top, where it is one of the slots
+  pub next_at_top : (memory : ℕ) (top : Reverse ℕ) → top.0 < length slots → 0 < length heap → top ≡ get_or heap 0 top → IsUpperBound (λ x y. nat_cmp y.0 x.0) top heap → length slots ≤ memory → IsNextSlot (record { slots = slots; capacity = memory }) top.0
+  next_at_top memory top within some first bound fits = record {
+    vacant = get_or_from_slice_get slots top.0 None None (vacant_there top.0 within (first_stands top heap some first));
+    least = λ slot less. held_below top.0 slot (all_above top heap bound) less (omega (arith, less, within));
+    fits = omega (arith, within, fits);
   }
 
-  -- ---- a value comes to the end
+  -- or else all slots have a value, and it comes to the end
+  pub held_beyond : (top : Reverse ℕ) → length slots ≤ top.0 → IsUpperBound (λ x y. nat_cmp y.0 x.0) top heap → AllHeld slots
+  held_beyond top le bound slot within = held_below top.0 slot (all_above top heap bound) (omega (arith, le, within)) within
 
-  vacancies_push : (x : X) (xs : List (Option X)) (slot : ℕ) → vacancies (slice_get (xs ++ Some x ∷ []) slot) ≡ vacancies (slice_get xs slot)
-  vacancies_push x [] zero = refl
-  vacancies_push x [] (suc slot) = refl
-  vacancies_push x (o ∷ os) zero = refl
-  vacancies_push x (o ∷ os) (suc slot) = vacancies_push x os slot
+  pub held_where_empty : length heap ≡ 0 → AllHeld slots
+  held_where_empty none slot within = is_held (get_or slots slot None) (λ vacant.
+      let stands : times slot heap ≡ 1 = stands_there slot within vacant in
+      omega (arith, stands, count_by-le-length (λ (r : Reverse ℕ). nat_eq slot r.0) heap, none))
 
-  pub vacant_push : (x : X) → length slots < capacity → HasVacant (slots ++ Some x ∷ []) heap capacity
-  vacant_push x fits =
-      let long : length (slots ++ Some x ∷ []) ≡ length slots + 1 = length_push slots (Some x) in
-      let more : count_by is_some (slots ++ Some x ∷ []) ≡ count_by is_some slots + 1 = sum_by_push holds slots (Some x) in
-      record {
-        least_first = h.least_first;
-        each_once = λ slot. h.each_once slot ∙ sym (vacancies_push x slots slot);
-        counted = omega (arith, h.counted, long, more);
-        fits = omega (arith, long, fits);
-      }
+  -- ---- the heap loses what is beyond the end
+
+  pub vacant_within : (news : List (Option X)) (kept more : List (Reverse ℕ)) (memory : ℕ) → news ≡ slots → kept ≡ filter (λ (r : Reverse ℕ). nat_lt r.0 (length slots)) heap → IsPermutation kept more → IsHeap (λ x y. nat_cmp y.0 x.0) more
+      → length more + count_by is_some slots ≤ memory → length slots ≤ memory → HasVacant news more memory
+  vacant_within news kept more memory same is moved order room fits = subst (λ l. HasVacant l more memory) (sym same) (record {
+    least_first = order;
+    each_once = λ slot within. sum_by-IsPermutation (counts slot) kept more moved ∙ ap (times slot) is ∙ times_within (length slots) slot heap within ∙ h.each_once slot within;
+    counted = room;
+    fits = fits;
+    last = h.last;
+  })
 
   -- ---- a value comes into a vacant slot
 
@@ -214,7 +288,7 @@ module _ {X : Type 0} (slots : List (Option X)) (heap : List (Reverse ℕ)) (cap
         let less : top.0 < slot = let from = ltb-false slot top.0 n in omega (arith, from, other) in
         let one : counts top.0 top ≡ 1 = counts_same top.0 top refl in
         let stands : 0 < times top.0 heap = omega (arith, one, sum_by_popped (counts top.0) top heap rest moved) in
-        let none : get_or slots top.0 None ≡ None = get_or_from_slice_get slots top.0 None None (vacant_there top.0 stands) in
+        let none : get_or slots top.0 None ≡ None = get_or_from_slice_get slots top.0 None None (vacant_there top.0 (omega (arith, less, within)) stands) in
         absurd (no_value none (next.least top.0 less))))
       where
         no_value : {o : Option X} → o ≡ None → IsSome o → ⊥
@@ -228,7 +302,7 @@ module _ {X : Type 0} (slots : List (Option X)) (heap : List (Reverse ℕ)) (cap
         let nothing : holds (get_or slots slot None) ≡ 0 = ap holds next.vacant in
         record {
           least_first = (order h.least_first).0;
-          each_once = λ k.
+          each_once = λ k inside.
               let left = sum_by_popped (counts k) top heap rest moved in
               by_number k slot
               (λ same.
@@ -238,11 +312,12 @@ module _ {X : Type 0} (slots : List (Option X)) (heap : List (Reverse ℕ)) (cap
               omega (arith, left, one, was, now))
               (λ other.
               let none : counts k top ≡ 0 = counts_other k top (λ same. other (same ∙ is)) in
-              let was = h.each_once k in
+              let was = h.each_once k (omega (arith, inside, length-set slots slot (Some x))) in
               let now : vacancies (slice_get (set slots slot (Some x)) k) ≡ vacancies (slice_get slots k) = ap vacancies (slice_get-set_other slots slot k (Some x) other) in
               omega (arith, left, none, was, now));
-          counted = omega (arith, h.counted, fewer, more, nothing, length-set slots slot (Some x));
+          counted = omega (arith, h.counted, fewer, more, nothing);
           fits = omega (arith, h.fits, length-set slots slot (Some x));
+          last = last_valued slots slot x within h.last;
         }
 
     pub vacant_filled : (x : X) (r : Option (Reverse ℕ)) (rest : List (Reverse ℕ)) (size : ℕ) → size ≡ length heap → IfNone r (size ≡ 0) → IfSome r (λ top. IsPermutation heap (top ∷ rest)) → IfSome r (λ top. PopsGreatest (λ x y. nat_cmp y.0 x.0) heap top rest)
@@ -260,15 +335,22 @@ module _ {X : Type 0} (slots : List (Option X)) (heap : List (Reverse ℕ)) (cap
     one_held = holds_one (get_or slots slot None) held
 
     absent : times slot heap ≡ 0
-    absent = h.each_once slot ∙ ap vacancies (slice_get-get_or slots slot None inside) ∙ no_vacancy (get_or slots slot None) held
+    absent = h.each_once slot inside ∙ ap vacancies (slice_get-get_or slots slot None inside) ∙ no_vacancy (get_or slots slot None) held
 
-    pub vacant_taken : (r : Reverse ℕ) (more : List (Reverse ℕ)) (memory : ℕ) → r.0 ≡ slot → IsPermutation (r ∷ heap) more → KeepsHeap (λ x y. nat_cmp y.0 x.0) heap more → capacity ≤ memory → HasVacant (set slots slot None) more memory
-    vacant_taken r more memory is moved order le =
+    fewer_held : count_by is_some (set slots slot None) + 1 ≡ count_by is_some slots
+    fewer_held = let fewer = sum_by-set holds slots slot None None inside in omega (arith, fewer, one_held)
+
+    -- so the heap has memory for it
+    pub has_room : length heap < capacity
+    has_room = omega (arith, h.counted, fewer_held)
+
+    pub vacant_taken : (r : Reverse ℕ) (more : List (Reverse ℕ)) (memory : ℕ) → slot + 1 < length slots → r.0 ≡ slot → IsPermutation (r ∷ heap) more → KeepsHeap (λ x y. nat_cmp y.0 x.0) heap more → capacity ≤ memory → HasVacant (set slots slot None) more memory
+    vacant_taken r more memory before is moved order le =
         let longer : length more ≡ suc (length heap) = length_permutation (r ∷ heap) more moved in
-        let fewer = sum_by-set holds slots slot None None inside in
+        let long = length-set slots slot None in
         record {
           least_first = order h.least_first;
-          each_once = λ k.
+          each_once = λ k within.
               let now = sum_by_pushed (counts k) r heap more moved in
               by_number k slot
               (λ same.
@@ -278,11 +360,31 @@ module _ {X : Type 0} (slots : List (Option X)) (heap : List (Reverse ℕ)) (cap
               omega (arith, now, one, was, there))
               (λ other.
               let none : counts k r ≡ 0 = counts_other k r (λ same. other (same ∙ is)) in
-              let was = h.each_once k in
+              let was = h.each_once k (omega (arith, within, long)) in
               let there : vacancies (slice_get (set slots slot None) k) ≡ vacancies (slice_get slots k) = ap vacancies (slice_get-set_other slots slot k None other) in
               omega (arith, now, none, was, there));
-          counted = omega (arith, h.counted, longer, fewer, one_held, length-set slots slot None);
-          fits = omega (arith, h.fits, le, length-set slots slot None);
+          counted = omega (arith, h.counted, longer, fewer_held, le);
+          fits = omega (arith, h.fits, le, long);
+          last = λ k is. ap is_some (get_or-set_other slots slot k None None (λ same. omega (arith, is, long, before, same))) ∙ h.last k (omega (arith, is, long));
+        }
+
+    -- the value of the last slot goes, and with it all vacant slots at the end
+    pub vacant_popped : (news : List (Option X)) → length slots ≤ slot + 1 → PopsVacant (set slots slot None) news → HasVacant news heap capacity
+    vacant_popped news at_end pops =
+        let long = length-set slots slot None in
+        record {
+          least_first = h.least_first;
+          each_once = λ k within. h.each_once k (omega (arith, within, long, pops.left.fewer)) ∙ by_number k slot
+              (λ same. absurd (
+              let some : IsSome (get_or news k None) = pops.last k (omega (arith, same, within, at_end, pops.left.fewer, long)) in
+              let none : get_or news k None ≡ None = pops.left.same k ∙ ap (λ k. get_or (set slots slot None) k None) same ∙ get_or-set_same slots slot None None inside in
+              true≢false (sym some ∙ ap is_some none)))
+              (λ other. ap vacancies (slice_get-get_or slots k None (omega (arith, within, long, pops.left.fewer))
+              ∙ ap Some (sym (pops.left.same k ∙ get_or-set_other slots slot k None None other))
+              ∙ sym (slice_get-get_or news k None within)));
+          counted = omega (arith, h.counted, fewer_held, pops.left.count);
+          fits = omega (arith, h.fits, pops.left.fewer, long);
+          last = pops.last;
         }
 
     -- ---- a value becomes another
@@ -292,11 +394,12 @@ module _ {X : Type 0} (slots : List (Option X)) (heap : List (Reverse ℕ)) (cap
         let same = sum_by-set holds slots slot (Some x) None inside in
         record {
           least_first = h.least_first;
-          each_once = λ k. h.each_once k ∙ by_number k slot
+          each_once = λ k within. h.each_once k (omega (arith, within, length-set slots slot (Some x))) ∙ by_number k slot
               (λ same.
               ap (λ k. vacancies (slice_get slots k)) same ∙ ap vacancies (slice_get-get_or slots slot None inside) ∙ no_vacancy (get_or slots slot None) held
               ∙ sym (ap (λ k. vacancies (slice_get (set slots slot (Some x)) k)) same ∙ ap vacancies (slice_get-set_same slots slot (Some x) inside)))
               (λ other. sym (ap vacancies (slice_get-set_other slots slot k (Some x) other)));
-          counted = omega (arith, h.counted, same, one_held, length-set slots slot (Some x));
+          counted = omega (arith, h.counted, same, one_held);
           fits = omega (arith, h.fits, length-set slots slot (Some x));
+          last = last_valued slots slot x inside h.last;
         }

@@ -7,4 +7,5 @@ pub mod laws;
 pub mod number;
 pub mod number_slots;
 pub mod reading;
+pub mod room;
 pub mod slots;

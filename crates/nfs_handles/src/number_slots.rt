@@ -5,6 +5,7 @@ ghost use Rattle.std.specs.Prelude.{nat_eq, nat_lt};
 ghost use Rattle.std.specs.Map.{lookup, remove_entry};
 ghost use Rattle.nfs_handles.specs.Placed.{Rises, IsPlaceOf, HasNo, is_live, led};
 
+use crate::room::give_back;
 use std::alloc::{AllocError, Global};
 use std::marker::Model;
 
@@ -162,7 +163,8 @@ fn find_by_halving(places: &[NumberSlot], number: u64) -> Option<usize>
     }
 }
 
-// Takes the dead places out where they are more than half, in no memory, and answers how many are left.
+// Takes the dead places out where they are more than half, and answers how many are left. It takes no
+// memory, and gives back what is no more needed.
 fn thin(places: &mut Vec<NumberSlot>, dead: usize) -> usize
     ensures entries { led places.new.items ≡ led places.old.items }
     ensures rises { (next : ℕ) → Rises 0 places.old.items next → Rises 0 places.new.items next }
@@ -175,5 +177,6 @@ fn thin(places: &mut Vec<NumberSlot>, dead: usize) -> usize
             ensures { result ≡ is_live place.now }
         { place.slot.is_some() },
     );
+    give_back(places);
     0
 }

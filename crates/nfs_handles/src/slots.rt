@@ -1,12 +1,15 @@
 //! The slots that values are kept in.
-ghost use Rattle.std.specs.Prelude.{◌≡◌, ◌≢◌, ℕ, [], Some, None, IfOk, IsSome, option_copied};
+ghost use Rattle.std.specs.Prelude.{◌≡◌, ◌≢◌, ℕ, [], Some, None, IfOk, IfSome, IfNone, IsSome};
+ghost use Rattle.std.specs.Prelude.{nat_lt, option_copied, vec_capacity};
 ghost use Rattle.std.specs.Borrow.{sem};
 ghost use Rattle.std.specs.Option.{option_copied_mut};
 ghost use Rattle.std.specs.Option.Follows.{option_follows_value};
-ghost use Rattle.nfs_handles.specs.SlotList.{IsNextSlot, Updates, get};
+ghost use Rattle.nfs_handles.specs.SlotList.{AllHeld, IsNextSlot, Updates, get};
 ghost use Rattle.nfs_handles.specs.Lending.{LendsSlot, LendsStored, LendsStoredIf};
 ghost use Rattle.nfs_handles.specs.Slotted.{value_in};
+ghost use Rattle.nfs_handles.specs.VacantSlots.{PopsVacant};
 
+use crate::room::room_kept;
 use std::alloc::{AllocError, Global};
 use std::cmp::Reverse;
 use std::collections::BinaryHeap;
@@ -22,8 +25,10 @@ pub(crate) struct Stored<T> {
 /// Values in slots, each with its number. The next value comes into the least vacant slot.
 #[derive(Drop)]
 pub(crate) struct Slots<T> {
+    // The last of them has a value.
     slots: Vec<Option<Stored<T>>>,
-    // The vacant ones among them. It has memory for all slots, so a value is taken out in no memory.
+    // The vacant ones among them, and slots beyond them that were vacant when they went. It has memory
+    // for as many more as have a value, so a value is taken out in no memory.
     vacant: BinaryHeap<Reverse<usize>>,
 }
 
@@ -62,12 +67,25 @@ impl<T: Drop> Slots<T> {
         ensures slot { IfOk result (IsNextSlot self.new) }
         ensures same { self.new ≡ record self.old { capacity = self.new.capacity } }
     {
-        if let Some(least) = self.vacant.peek() {
-            return Ok(least.0);
+        if let Some(slot) = self.least_vacant() {
+            return Ok(slot);
         }
         self.slots.reserve(1)?;
-        self.vacant.reserve(self.slots.capacity())?;
+        let room = self.slots.capacity().saturating_sub(self.vacant.len());
+        self.vacant.reserve(room)?;
         Ok(self.slots.len())
+    }
+
+    // The least slot with nothing in it, unless all have a value.
+    #[inline(always)]
+    fn least_vacant(&self) -> Option<usize>
+        ensures some { IfSome result (IsNextSlot self.now) }
+        ensures none { IfNone result (AllHeld self.now.slots) }
+    {
+        match self.vacant.peek() {
+            Some(least) if least.0 < self.slots.len() => Some(least.0),
+            _ => None,
+        }
     }
 
     /// Puts a value with its number into the slot that was reserved.
@@ -78,6 +96,8 @@ impl<T: Drop> Slots<T> {
     {
         let stored = Some(Stored { number, value });
         if slot == self.slots.len() {
+            // None among the slots is vacant, so what is left lies beyond them.
+            self.vacant.clear();
             self.slots.push_reserved(stored);
             return;
         }
@@ -150,7 +170,8 @@ impl<T: Drop> Slots<T> {
         inside(&mut self.slots[slot])
     }
 
-    /// Takes the value out of a slot.
+    /// Takes the value out of a slot. Vacant slots at the end go, and with them memory that is no more
+    /// needed.
     #[inline(always)]
     pub(crate) fn take(&mut self, slot: usize) -> Option<T>
         ensures value { result ≡ value_in self.old slot }
@@ -161,8 +182,51 @@ impl<T: Drop> Slots<T> {
             return None;
         }
         let stored = self.slots[slot].take()?;
-        self.vacant.push(Reverse(slot)).unwrap();
+        if slot + 1 < self.slots.len() {
+            self.vacant.push(Reverse(slot)).unwrap();
+        } else {
+            pop_vacant(&mut self.slots);
+            self.shrink();
+        }
         Some(stored.value)
+    }
+
+    // Gives memory back, where less than a quarter of it is in use.
+    #[inline(always)]
+    fn shrink(&mut self)
+        ensures { self.new.slots ≡ self.old.slots }
+    {
+        let kept = room_kept(self.slots.len(), self.slots.capacity());
+        if let Some(room) = kept {
+            self.shrink_to(room);
+        }
+    }
+
+    // Gives memory back, but for so many slots.
+    #[inline(never)]
+    fn shrink_to(&mut self, room: usize)
+        ensures { self.new.slots ≡ self.old.slots }
+    {
+        self.slots.shrink_to(room);
+        let len = self.slots.len();
+        self.vacant.retain(
+            |slot: &Reverse<usize>| -> bool
+                ensures { result ≡ nat_lt slot.now.0 len }
+            { slot.0 < len },
+        );
+        let needed = self.vacant.len() + len;
+        self.vacant.shrink_to(needed.max(room));
+    }
+}
+
+// Takes the vacant slots at the end out.
+#[inline(always)]
+fn pop_vacant<X: Drop>(slots: &mut Vec<Option<X>>)
+    ensures pops { PopsVacant slots.old.items slots.new.items }
+    ensures capacity { vec_capacity slots.new ≡ vec_capacity slots.old }
+{
+    while let Some(None) = slots.last() {
+        slots.pop();
     }
 }
 

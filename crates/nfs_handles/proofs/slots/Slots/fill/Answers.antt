@@ -1,4 +1,4 @@
-use Rattle.std.proofs.Common.{◌<◌, length, heap_items, heap_len, sym, ◌∙◌, refl, arith}
+use Rattle.std.proofs.Common.{◌≡◌, length, heap_items, heap_len, sym, ◌∙◌, refl, arith}
 use Rattle.std.specs.BinaryHeap.{heap_capacity}
 use Rattle.nfs_handles.proofs.VacantSlots.{Updates-set, next_within, vacant_push, vacant_filled}
 use Rattle.nfs_handles.proofs.slots.Slots.fill.Goals as goal
@@ -8,8 +8,9 @@ invariant_of-self g c =
     let next = rw (← c.self.view_is) at c.requires in
     let fits = next.fits in
     let long = c.self.inside.slots.ok.0 in
-    let fits_all : length c.self.inside.slots.items < heap_capacity c.self.inside.vacant = omega (arith, fits, long, c.if-slot-len.true, c.len.ensures) in
-    rw c.push_reserved.ensures.items (vacant_push c.self.inside.slots.items (heap_items c.self.inside.vacant) (heap_capacity c.self.inside.vacant) c.self.invariant _ fits_all)
+    let here : c.args.slot ≡ length c.self.inside.slots.items = c.if-slot-len.true ∙ c.len.ensures ∙ long in
+    rw c.push_reserved.ensures.items (vacant_push c.self.inside.slots.items _ (heap_items c.clear.new.self) (heap_capacity c.clear.new.self)
+    (λ k within. next.least k (omega (arith, within, here))) c.clear.ensures.items c.clear.ensures.heap_order (omega (arith, next.fits, here, c.clear.ensures.capacity)))
 
 pub index_mut-requires : goal.index_mut-requires
 index_mut-requires g c =
