@@ -6,6 +6,6 @@ use std::alloc::AllocError;
 pub enum PutFault<T> {
     /// Every number but the last was given, and the last, 2^64 - 1, never is.
     Spent(T),
-    /// There is no memory, as the allocator said.
+    /// There is no memory, as the allocator said; or 2^32 - 1 files live.
     Memory(T, AllocError),
 }

@@ -24,7 +24,7 @@ use std::marker::Model;
 // The first bytes of each handle.
 const MAGIC: [u8; 4] = *b"NFS3";
 
-// The last tag, which each file in a slot from there on has.
+// The last tag. No file is in a slot from there on, since no number leads to one.
 const LAST_TAG: usize = u32::MAX as usize;
 
 /// Files that each have a number of their own, beside the number of the next and the key of the
@@ -97,7 +97,8 @@ impl<T: Drop> Files<T> {
     }
 
     /// Adds a file, and answers its number. `Spent` exactly where the next number is 2^64 - 1,
-    /// `Memory` where there is no memory; both hand the value back and change nothing.
+    /// `Memory` where there is no memory or 2^32 - 1 files live; both hand the value back and change
+    /// nothing.
     #[inline(always)]
     pub fn put(&mut self, value: T) -> Result<Number, PutFault<T>>
         ensures { Puts self.old value result self.new }
@@ -119,8 +120,8 @@ impl<T: Drop> Files<T> {
         }
     }
 
-    /// Adds a file where numbers are left, and answers its number. Refused without memory; then the value
-    /// is dropped, and nothing changes.
+    /// Adds a file where numbers are left, and answers its number. Refused without memory, or where
+    /// 2^32 - 1 files live; then the value is dropped, and nothing changes.
     #[inline(always)]
     pub fn add(&mut self, value: T) -> Result<Number, AllocError>
         requires { self.old.next < 2 ^ 64 - 1 }

@@ -5,6 +5,7 @@ pub mod fault;
 pub mod files;
 pub mod laws;
 pub mod number;
+pub mod number_slot;
 pub mod number_slots;
 pub mod reading;
 pub mod room;

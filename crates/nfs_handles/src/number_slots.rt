@@ -5,19 +5,13 @@ ghost use Rattle.std.specs.Prelude.{nat_eq, nat_lt};
 ghost use Rattle.std.specs.Map.{lookup, remove_entry};
 ghost use Rattle.nfs_handles.specs.Placed.{Rises, IsPlaceOf, HasNo, is_live, led};
 
+use crate::number_slot::NumberSlot;
 use crate::room::give_back;
 use std::alloc::{AllocError, Global};
 use std::marker::Model;
 
 // So many dead places are left where there are few.
 const FEW: usize = 16;
-
-/// A number, and the slot that it leads to, unless it is dead.
-#[derive(Clone, Copy)]
-pub(crate) struct NumberSlot {
-    pub(crate) number: u64,
-    pub(crate) slot: Option<usize>,
-}
 
 /// The slots that numbers lead to, and the next number.
 #[derive(Drop)]
@@ -71,11 +65,11 @@ impl NumberSlots {
         ensures { result ≡ lookup (nat_eq number) self.now.entries }
     {
         let at = find(self.places.as_slice(), number)?;
-        self.places[at].slot
+        self.places[at].slot()
     }
 
-    /// The next number leads to this slot from now on. Refused without memory, and then nothing
-    /// changes.
+    /// The next number leads to this slot from now on. Refused without memory, or where the slot is
+    /// 2^32 - 1 or above; then nothing changes.
     #[inline(always)]
     pub(crate) fn push(&mut self, slot: usize) -> Result<(), AllocError>
         requires { self.old.next + 1 < 2 ^ 64 }
@@ -83,10 +77,10 @@ impl NumberSlots {
         ensures next { OnOk result (self.new.next ≡ self.old.next + 1) }
         ensures err { OnErr result (self.new ≡ self.old) }
     {
-        self.places.push(NumberSlot {
-            number: self.next,
-            slot: Some(slot),
-        })?;
+        let Some(place) = NumberSlot::new(self.next, slot) else {
+            return Err(AllocError);
+        };
+        self.places.push(place)?;
         self.next += 1;
         Ok(())
     }
@@ -99,8 +93,8 @@ impl NumberSlots {
         ensures same { IfNone result (self.new ≡ self.old) }
     {
         let at = find(self.places.as_slice(), number)?;
-        let slot = self.places[at].slot?;
-        self.places[at] = NumberSlot { number, slot: None };
+        let slot = self.places[at].slot()?;
+        self.places[at] = NumberSlot::dead(number);
         self.dead = thin(&mut self.places, self.dead.saturating_add(1));
         Some(slot)
     }
@@ -126,11 +120,11 @@ fn find(places: &[NumberSlot], number: u64) -> Option<usize>
 fn find_at_once(places: &[NumberSlot], number: u64) -> Option<usize>
     ensures { IfSome result (λ at. IsPlaceOf places.now number at) }
 {
-    let above = number.checked_sub(places.first()?.number)? as usize;
+    let above = number.checked_sub(places.first()?.number())? as usize;
     if stands_at(places, number, above) {
         return Some(above);
     }
-    let below = places.last()?.number.checked_sub(number)? as usize;
+    let below = places.last()?.number().checked_sub(number)? as usize;
     let at = places.len().checked_sub(below)?.checked_sub(1)?;
     if stands_at(places, number, at) {
         Some(at)
@@ -143,7 +137,7 @@ fn find_at_once(places: &[NumberSlot], number: u64) -> Option<usize>
 fn stands_at(places: &[NumberSlot], number: u64, at: usize) -> bool
     ensures { IsTrue result ↔ IsPlaceOf places.now number at }
 {
-    at < places.len() && places[at].number == number
+    at < places.len() && places[at].number() == number
 }
 
 fn find_by_halving(places: &[NumberSlot], number: u64) -> Option<usize>
@@ -154,9 +148,9 @@ fn find_by_halving(places: &[NumberSlot], number: u64) -> Option<usize>
     let at = places.partition_point(
         |place: &NumberSlot| -> bool
             ensures { result ≡ nat_lt place.now.number number }
-        { place.number < number },
+        { place.number() < number },
     );
-    if at < places.len() && places[at].number == number {
+    if stands_at(places, number, at) {
         Some(at)
     } else {
         None
@@ -175,7 +169,7 @@ fn thin(places: &mut Vec<NumberSlot>, dead: usize) -> usize
     places.retain(
         |place: &NumberSlot| -> bool
             ensures { result ≡ is_live place.now }
-        { place.slot.is_some() },
+        { place.slot().is_some() },
     );
     give_back(places);
     0

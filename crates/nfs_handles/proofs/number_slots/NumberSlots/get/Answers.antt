@@ -1,6 +1,5 @@
 use Rattle.std.proofs.Common.{subst, sym, ap, ◌∙◌}
-use Rattle.nfs_handles.specs.declared.number_slots.NumberSlot.{NumberSlot}
-use Rattle.nfs_handles.specs.Placed.{HasNo, IsPlaceOf}
+use Rattle.nfs_handles.specs.Placed.{Place, HasNo, IsPlaceOf}
 use Rattle.nfs_handles.proofs.Rising.{lookup_at, lookup_none}
 use Rattle.nfs_handles.proofs.number_slots.NumberSlots.get.Goals as goal
 
@@ -13,4 +12,4 @@ pub returns : goal.returns
 returns c =
     let found = subst (λ ps. IsPlaceOf ps c.args.number c.in_ok-at.at) c.as_slice.ensures.value c.in_ok-at.ensures.found in
     let there = lookup_at c.args.number 0 c.self.inside.next c.self.inside.places.items c.in_ok-at.at c.index.result.now c.self.invariant found.0 (found.1 c.index.result.now) in
-    rw (← c.self.view_is) (ap (λ (p : NumberSlot). p.slot) c.index.ensures ∙ sym there)
+    rw (← c.self.view_is) (c.slot.ensures ∙ ap (λ (p : Place). p.slot) c.index.ensures ∙ sym there)
