@@ -124,19 +124,19 @@ impl DirectoryEntries {
     }
 
     /// One entry more, for which there is room. It goes last.
-    pub fn push(&mut self, name: Vec<u8>, number: Number)
+    pub fn push(&mut self, name: EntryName, number: Number)
         requires room { 0 < self.old.spare }
-        requires absent { entry_named name.items self.old.entries ≡ None }
+        requires absent { entry_named name self.old.entries ≡ None }
         requires next { self.old.next + 1 < 2 ^ 64 }
         ensures entries { self.new.entries
-            ≡ self.old.entries ++ (record { cookie = self.old.next; name = name.items; number = number.0 }) ∷ [] }
+            ≡ self.old.entries ++ (record { cookie = self.old.next; name = name; number = number.0 }) ∷ [] }
         ensures next { self.new.next ≡ self.old.next + 1 }
     {
         let cookie = self.next;
         self.next += 1;
         let index = self.rows.len();
         self.rows
-            .insert(EntryName::new(name), EntryData::new(cookie, number))
+            .insert(name, EntryData::new(cookie, number))
             .unwrap();
         self.places.push(EntryPosition { cookie, index }).unwrap();
     }

@@ -1,11 +1,12 @@
 //! Names, as entries keep them and as they are looked up.
-ghost use Rattle.std.specs.Prelude.{◌≡◌, bytes_eq};
+ghost use Rattle.std.specs.Prelude.{◌≡◌, ◌≤◌, IfOk, IsOk, bytes_eq, length};
 ghost use Rattle.std.specs.Hash as fed;
 ghost use Rattle.std.proofs.Common.{ap};
 ghost use Rattle.std.specs.Cmp.{partial_equiv_from_equiv, on_per, on_equiv};
 ghost use Rattle.std.specs.Cmp.Lexicographic.{bytes_decides, nat_list_eq_equiv};
 
 use indexmap::Equivalent;
+use std::alloc::{AllocError, Global};
 use std::hash::{Hash, Hasher};
 use std::marker::Model;
 
@@ -15,7 +16,7 @@ const MAX_SHORT: usize = 30;
 /// The name of an entry. One of up to 30 bytes stands in the row itself, so that finding the row finds it too.
 /// A longer one stands elsewhere.
 #[derive(Drop)]
-pub(crate) struct EntryName(NameForm);
+pub struct EntryName(NameForm);
 
 #[derive(Drop)]
 enum NameForm {
@@ -39,25 +40,27 @@ impl Model for EntryName {
 }
 
 impl EntryName {
-    /// The name with these bytes. A short one is copied, and the memory of its bytes given back.
-    pub(crate) fn new(name: Vec<u8>) -> EntryName
-        ensures { result ≡ name.items }
+    /// The name with these bytes. One of up to 30 takes no memory. `AllocError` where there is none for
+    /// a longer one.
+    pub fn copied(alloc: Global, name: &[u8]) -> Result<EntryName, AllocError>
+        ensures bytes { IfOk result (λ n. n ≡ name.now) }
+        ensures short { length name.now ≤ 30 → IsOk result }
     {
         let len = name.len();
         if len > MAX_SHORT {
-            return EntryName(NameForm::Long(name));
+            return Ok(EntryName(NameForm::Long(name.to_vec(alloc)?)));
         }
         let mut bytes = [0; MAX_SHORT];
-        bytes[..len].copy_from_slice(name.as_slice());
-        EntryName(NameForm::Short {
+        bytes[..len].copy_from_slice(name);
+        Ok(EntryName(NameForm::Short {
             len: len as u8,
             bytes,
-        })
+        }))
     }
 
     /// Its bytes.
     #[inline(always)]
-    pub(crate) fn as_slice(&self) -> &[u8]
+    pub fn as_slice(&self) -> &[u8]
         ensures { result.now ≡ self.now }
     {
         match &self.0 {

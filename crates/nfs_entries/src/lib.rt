@@ -3,4 +3,4 @@
 
 pub mod directory_entries;
 pub mod entry_data;
-mod entry_name;
+pub mod entry_name;

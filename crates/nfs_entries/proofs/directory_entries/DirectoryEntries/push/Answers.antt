@@ -15,10 +15,10 @@ invariant_of-self c =
     let rows = c.self.inside.rows.entries in
     let places = c.self.inside.places.items in
     let kept : KeptValue = record { cookie = c.self.inside.next; number = c.args.number.0 } in
-    let row : Row = (c.args.name.items, kept) in
-    let absent : HasNo rows c.args.name.items = absent_from c.args.name.items rows places c.self.inside.next c.self.invariant.0 (ap (λ (v : Listed). find (has_name c.args.name.items) v.entries) c.self.view_is ∙ c.requires.absent) in
-    let inserted : c.insert.new.self.entries ≡ insert_entry bytes_eq rows c.args.name.items kept = IfOk-at_ok (λ _. c.insert.new.self.entries ≡ insert_entry bytes_eq rows c.new.result c.new-2.result) c.unwrap.ensures c.insert.ensures.entries ∙ (λ i. insert_entry bytes_eq rows (c.new.ensures i) (c.new-2.ensures i)) in
-    let new_rows : c.insert.new.self.entries ≡ rows ++ row ∷ [] = inserted ∙ insert_entry-new bytes_eq c.self.inside.rows c.args.name.items kept (unlooked (bytes_eq c.args.name.items) rows (λ i r at. flipped c.args.name.items r.0 ∙ absent i r at)) in
+    let row : Row = (c.args.name, kept) in
+    let absent : HasNo rows c.args.name = absent_from c.args.name rows places c.self.inside.next c.self.invariant.0 (ap (λ (v : Listed). find (has_name c.args.name) v.entries) c.self.view_is ∙ c.requires.absent) in
+    let inserted : c.insert.new.self.entries ≡ insert_entry bytes_eq rows c.args.name kept = IfOk-at_ok (λ _. c.insert.new.self.entries ≡ insert_entry bytes_eq rows c.args.name c.new.result) c.unwrap.ensures c.insert.ensures.entries ∙ (λ i. insert_entry bytes_eq rows c.args.name (c.new.ensures i)) in
+    let new_rows : c.insert.new.self.entries ≡ rows ++ row ∷ [] = inserted ∙ insert_entry-new bytes_eq c.self.inside.rows c.args.name kept (unlooked (bytes_eq c.args.name) rows (λ i r at. flipped c.args.name r.0 ∙ absent i r at)) in
     let pushed : c.push.new.self.items ≡ places ++ (record { cookie = c.self.inside.next; index = c.len-index.result }) ∷ [] = c.push.ensures.items ∙ ap (λ r. if is_ok r then places ++ (record { cookie = c.self.inside.next; index = c.len-index.result }) ∷ [] else places) c.unwrap-2.ensures in
     let new_places : c.push.new.self.items ≡ places ++ place_of row (length rows) ∷ [] = pushed ∙ ap (λ n. places ++ (record { cookie = c.self.inside.next; index = n }) ∷ []) c.len-index.ensures.len in (
       subst (λ n. IsKept c.insert.new.self.entries c.push.new.self.items n) (omega arith)
@@ -33,11 +33,11 @@ returns-clause-entries c =
     let rows = c.self.inside.rows.entries in
     let places = c.self.inside.places.items in
     let kept : KeptValue = record { cookie = c.self.inside.next; number = c.args.number.0 } in
-    let row : Row = (c.args.name.items, kept) in
-    let absent : HasNo rows c.args.name.items = absent_from c.args.name.items rows places c.self.inside.next c.self.invariant.0 (ap (λ (v : Listed). find (has_name c.args.name.items) v.entries) c.self.view_is ∙ c.requires.absent) in
-    let inserted : c.insert.new.self.entries ≡ insert_entry bytes_eq rows c.args.name.items kept = IfOk-at_ok (λ _. c.insert.new.self.entries ≡ insert_entry bytes_eq rows c.new.result c.new-2.result) c.unwrap.ensures c.insert.ensures.entries ∙ (λ i. insert_entry bytes_eq rows (c.new.ensures i) (c.new-2.ensures i)) in
-    let new_rows : c.insert.new.self.entries ≡ rows ++ row ∷ [] = inserted ∙ insert_entry-new bytes_eq c.self.inside.rows c.args.name.items kept (unlooked (bytes_eq c.args.name.items) rows (λ i r at. flipped c.args.name.items r.0 ∙ absent i r at)) in
+    let row : Row = (c.args.name, kept) in
+    let absent : HasNo rows c.args.name = absent_from c.args.name rows places c.self.inside.next c.self.invariant.0 (ap (λ (v : Listed). find (has_name c.args.name) v.entries) c.self.view_is ∙ c.requires.absent) in
+    let inserted : c.insert.new.self.entries ≡ insert_entry bytes_eq rows c.args.name kept = IfOk-at_ok (λ _. c.insert.new.self.entries ≡ insert_entry bytes_eq rows c.args.name c.new.result) c.unwrap.ensures c.insert.ensures.entries ∙ (λ i. insert_entry bytes_eq rows c.args.name (c.new.ensures i)) in
+    let new_rows : c.insert.new.self.entries ≡ rows ++ row ∷ [] = inserted ∙ insert_entry-new bytes_eq c.self.inside.rows c.args.name kept (unlooked (bytes_eq c.args.name) rows (λ i r at. flipped c.args.name r.0 ∙ absent i r at)) in
     let pushed : c.push.new.self.items ≡ places ++ (record { cookie = c.self.inside.next; index = c.len-index.result }) ∷ [] = c.push.ensures.items ∙ ap (λ r. if is_ok r then places ++ (record { cookie = c.self.inside.next; index = c.len-index.result }) ∷ [] else places) c.unwrap-2.ensures in
     let new_places : c.push.new.self.items ≡ places ++ place_of row (length rows) ∷ [] = pushed ∙ ap (λ n. places ++ (record { cookie = c.self.inside.next; index = n }) ∷ []) c.len-index.ensures.len in
     (λ i. listed (new_rows i) (new_places i)) ∙ listed_more rows places row c.self.invariant.0 absent
-    ∙ ap (λ (v : Listed). v.entries ++ (record { cookie = v.next; name = c.args.name.items; number = c.args.number.0 }) ∷ []) c.self.view_is
+    ∙ ap (λ (v : Listed). v.entries ++ (record { cookie = v.next; name = c.args.name; number = c.args.number.0 }) ∷ []) c.self.view_is
