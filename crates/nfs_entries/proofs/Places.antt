@@ -7,8 +7,7 @@ use Rattle.std.proofs.lemmas.Bool.{leb-true, le-leb, lt-ltb, le-ltb, ltb-true, l
 use Rattle.std.proofs.lemmas.Option.{slice_get-get_or}
 use Rattle.std.proofs.Math.Seq.{take-length}
 use Rattle.std.proofs.lemmas.List.{length-drop}
-use Rattle.nfs_entries.specs.declared.entry_data.EntryPosition.{EntryPosition}
-use Rattle.nfs_entries.specs.Listing.{Rises, led}
+use Rattle.nfs_entries.specs.Listing.{PlaceValue, Rises, led}
 use Rattle.nfs_entries.proofs.Cases.{by_test, by_number, if_true, if_false, same_some}
 
 -- all that follows some elements
@@ -16,34 +15,34 @@ pub rest_of : {X : Type 0} (n : ℕ) (xs : List X) → take (length xs - n) (dro
 rest_of n xs = ap (λ m. take m (drop n xs)) (sym (length-drop n xs)) ∙ take-length (drop n xs)
 
 -- no cookie is below the low one
-pub from_low : (low next : ℕ) (ps : List EntryPosition) (k : ℕ) (d : EntryPosition) → Rises low ps next → k < length ps → low ≤ (get_or ps k d).cookie
+pub from_low : (low next : ℕ) (ps : List PlaceValue) (k : ℕ) (d : PlaceValue) → Rises low ps next → k < length ps → low ≤ (get_or ps k d).cookie
 from_low low next [] k d rises within = absurd (omega (arith, within))
 from_low low next (p ∷ ps) zero d rises within = rises.0
 from_low low next (p ∷ ps) (suc k) d rises within = let rest = from_low (suc p.cookie) next ps k d rises.1 (omega (arith, within)) in let first = rises.0 in omega (arith, rest, first)
 
 -- a later place has a greater cookie
-pub later : (low next : ℕ) (ps : List EntryPosition) (i j : ℕ) (d : EntryPosition) → Rises low ps next → i < j → j < length ps → (get_or ps i d).cookie < (get_or ps j d).cookie
+pub later : (low next : ℕ) (ps : List PlaceValue) (i j : ℕ) (d : PlaceValue) → Rises low ps next → i < j → j < length ps → (get_or ps i d).cookie < (get_or ps j d).cookie
 later low next [] i j d rises less within = absurd (omega (arith, within))
 later low next (p ∷ ps) i zero d rises less within = absurd (omega (arith, less))
 later low next (p ∷ ps) zero (suc j) d rises less within = let rest = from_low (suc p.cookie) next ps j d rises.1 (omega (arith, within)) in omega (arith, rest)
 later low next (p ∷ ps) (suc i) (suc j) d rises less within = later (suc p.cookie) next ps i j d rises.1 (omega (arith, less)) (omega (arith, within))
 
 -- what is at or below a cookie comes first, and so does what is below one
-pub at_most_first : (cookie next : ℕ) (ps : List EntryPosition) → Rises 0 ps next → IsPartitionedBy (λ p. nat_le p.cookie cookie) ps
+pub at_most_first : (cookie next : ℕ) (ps : List PlaceValue) → Rises 0 ps next → IsPartitionedBy (λ p. nat_le p.cookie cookie) ps
 at_most_first cookie next ps rises i j d before within below = by_number i j
     (λ same. subst (λ k. nat_le (get_or ps k d).cookie cookie ≡ true) (sym same) below)
     (λ other. let less = later 0 next ps i j d rises (omega (arith, before, other)) within in
     le-leb _ _ (omega (arith, less, leb-true _ _ below)))
 
-pub below_first : (cookie next : ℕ) (ps : List EntryPosition) → Rises 0 ps next → IsPartitionedBy (λ p. nat_lt p.cookie cookie) ps
+pub below_first : (cookie next : ℕ) (ps : List PlaceValue) → Rises 0 ps next → IsPartitionedBy (λ p. nat_lt p.cookie cookie) ps
 below_first cookie next ps rises i j d before within below = by_number i j
     (λ same. subst (λ k. nat_lt (get_or ps k d).cookie cookie ≡ true) (sym same) below)
     (λ other. let less = later 0 next ps i j d rises (omega (arith, before, other)) within in
     lt-ltb _ _ (omega (arith, less, ltb-true _ _ below)))
 
 -- those from where cookies are above one
-pub after_point : (cookie : ℕ) (ps : List EntryPosition) (first : ℕ) → first ≤ length ps
-    → ((k : ℕ) (d : EntryPosition) → k < first → (get_or ps k d).cookie ≤ cookie) → ((k : ℕ) (d : EntryPosition) → first ≤ k → k < length ps → cookie < (get_or ps k d).cookie)
+pub after_point : (cookie : ℕ) (ps : List PlaceValue) (first : ℕ) → first ≤ length ps
+    → ((k : ℕ) (d : PlaceValue) → k < first → (get_or ps k d).cookie ≤ cookie) → ((k : ℕ) (d : PlaceValue) → first ≤ k → k < length ps → cookie < (get_or ps k d).cookie)
     → drop first ps ≡ filter (λ p. nat_lt cookie p.cookie) ps
 after_point cookie [] zero bound below above = refl
 after_point cookie [] (suc first) bound below above = refl
@@ -55,7 +54,7 @@ after_point cookie (x ∷ xs) (suc first) bound below above =
     ∙ sym (if_false (x ∷ filter (λ p. nat_lt cookie p.cookie) xs) (filter (λ p. nat_lt cookie p.cookie) xs) (le-ltb _ _ (below 0 x (omega arith))))
 
 -- where each cookie is another, none is led elsewhere
-pub led_none : (cookie index : ℕ) (ps : List EntryPosition) → ((k : ℕ) (d : EntryPosition) → k < length ps → nat_eq (get_or ps k d).cookie cookie ≡ false) → led cookie index ps ≡ ps
+pub led_none : (cookie index : ℕ) (ps : List PlaceValue) → ((k : ℕ) (d : PlaceValue) → k < length ps → nat_eq (get_or ps k d).cookie cookie ≡ false) → led cookie index ps ≡ ps
 led_none cookie index [] other = refl
 led_none cookie index (p ∷ ps) other =
     (λ i. if_false (record { cookie = cookie; index = index }) p (other 0 p (omega arith)) i ∷ led_none cookie index ps (λ k d less. other (suc k) d (omega (arith, less))) i)
@@ -64,7 +63,7 @@ pub not_equal : (a b : ℕ) → (a ≡ b → ⊥) → nat_eq a b ≡ false
 not_equal a b other = by_test (nat_eq a b) (λ y. absurd (other (eqb-true a b y))) (λ n. n)
 
 -- where the place at an index has the cookie, that one is led elsewhere
-pub led_point : (cookie index low next : ℕ) (ps : List EntryPosition) (n : ℕ) (d : EntryPosition) → Rises low ps next → n < length ps → (get_or ps n d).cookie ≡ cookie
+pub led_point : (cookie index low next : ℕ) (ps : List PlaceValue) (n : ℕ) (d : PlaceValue) → Rises low ps next → n < length ps → (get_or ps n d).cookie ≡ cookie
     → slice_set ps n (record { cookie = cookie; index = index }) ≡ led cookie index ps
 led_point cookie index low next [] n d rises within is = absurd (omega (arith, within))
 led_point cookie index low next (p ∷ ps) zero d rises within is =
@@ -76,7 +75,7 @@ led_point cookie index low next (p ∷ ps) (suc n) d rises within is =
     (λ i. sym (if_false (record { cookie = cookie; index = index }) p (not_equal p.cookie cookie (λ same. absurd (omega (arith, less, same, is))))) i ∷ rest i)
 
 -- cookies stay, so they rise as before
-pub led_rises : (cookie index low next : ℕ) (ps : List EntryPosition) → Rises low ps next → Rises low (led cookie index ps) next
+pub led_rises : (cookie index low next : ℕ) (ps : List PlaceValue) → Rises low ps next → Rises low (led cookie index ps) next
 led_rises cookie index low next [] rises = rises
 led_rises cookie index low next (p ∷ ps) rises = by_test (nat_eq p.cookie cookie)
     (λ y. let head = if_true (record { cookie = cookie; index = index }) p y in
@@ -86,12 +85,12 @@ led_rises cookie index low next (p ∷ ps) rises = by_test (nat_eq p.cookie cook
     subst (λ q. (low ≤ q.cookie) × Rises (suc q.cookie) (led cookie index ps) next) (sym head) (rises.0, led_rises cookie index (suc p.cookie) next ps rises.1))
 
 -- a greater bound below is given up
-pub from_less : (low more next : ℕ) (ps : List EntryPosition) → low ≤ more → Rises more ps next → Rises low ps next
+pub from_less : (low more next : ℕ) (ps : List PlaceValue) → low ≤ more → Rises more ps next → Rises low ps next
 from_less low more next [] less rises = omega (arith, less, rises)
 from_less low more next (p ∷ ps) less rises = (let first = rises.0 in omega (arith, less, first), rises.1)
 
 -- some of the places rise too
-pub filter_rises : (keep : EntryPosition → Bool) (low next : ℕ) (ps : List EntryPosition) → Rises low ps next → Rises low (filter keep ps) next
+pub filter_rises : (keep : PlaceValue → Bool) (low next : ℕ) (ps : List PlaceValue) → Rises low ps next → Rises low (filter keep ps) next
 filter_rises keep low next [] rises = rises
 filter_rises keep low next (p ∷ ps) rises =
     let rest = filter_rises keep (suc p.cookie) next ps rises.1 in
@@ -100,7 +99,7 @@ filter_rises keep low next (p ∷ ps) rises =
     (λ n. subst (λ qs. Rises low qs next) (sym (if_false (p ∷ filter keep ps) (filter keep ps) n)) (from_less low (suc p.cookie) next _ (let first = rises.0 in omega (arith, first)) rest))
 
 -- one place more, of the next cookie
-pub push_rises : (low next index : ℕ) (ps : List EntryPosition) → Rises low ps next → Rises low (ps ++ record { cookie = next; index = index } ∷ []) (suc next)
+pub push_rises : (low next index : ℕ) (ps : List PlaceValue) → Rises low ps next → Rises low (ps ++ record { cookie = next; index = index } ∷ []) (suc next)
 push_rises low next index [] rises = (rises, omega arith)
 push_rises low next index (p ∷ ps) rises = (rises.0, push_rises (suc p.cookie) next index ps rises.1)
 
@@ -109,9 +108,9 @@ pub same_read : {X : Type 0} (xs : List X) (k : ℕ) (d e : X) → k < length xs
 same_read xs k d e within = same_some (sym (slice_get-get_or xs k d within) ∙ slice_get-get_or xs k e within)
 
 -- where the first place that isn't below a cookie is past the end, or another's, none is led elsewhere
-pub led_other : (cookie index next : ℕ) (ps : List EntryPosition) (n : ℕ) → Rises 0 ps next
-    → ((k : ℕ) (d : EntryPosition) → k < n → k < length ps → (get_or ps k d).cookie < cookie) → ((k : ℕ) (d : EntryPosition) → n ≤ k → k < length ps → cookie ≤ (get_or ps k d).cookie)
-    → ((d : EntryPosition) → n < length ps → (get_or ps n d).cookie ≡ cookie → ⊥) → ps ≡ led cookie index ps
+pub led_other : (cookie index next : ℕ) (ps : List PlaceValue) (n : ℕ) → Rises 0 ps next
+    → ((k : ℕ) (d : PlaceValue) → k < n → k < length ps → (get_or ps k d).cookie < cookie) → ((k : ℕ) (d : PlaceValue) → n ≤ k → k < length ps → cookie ≤ (get_or ps k d).cookie)
+    → ((d : PlaceValue) → n < length ps → (get_or ps n d).cookie ≡ cookie → ⊥) → ps ≡ led cookie index ps
 led_other cookie index next ps n rises below above other = sym (led_none cookie index ps (λ k d within. not_equal (get_or ps k d).cookie cookie (λ same. by_test (nat_lt k n)
     (λ y. absurd (let less = below k d (ltb-true k n y) within in omega (arith, less, same)))
     (λ f. by_number k n

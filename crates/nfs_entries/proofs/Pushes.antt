@@ -6,8 +6,7 @@ use Rattle.std.proofs.lemmas.List.{length_push}
 use Rattle.std.proofs.lemmas.Option.{slice_get_past}
 use Rattle.std.proofs.lemmas.List.Elements.{filter_map-append, Contains-append_left, Contains-push}
 use Rattle.std.proofs.lemmas.Slice.Eq.{bytes_eq-Decides}
-use Rattle.nfs_entries.specs.declared.entry_data.EntryPosition.{EntryPosition}
-use Rattle.nfs_entries.specs.Listing.{Row, AreFew, entry_of, of_cookie, standing, listed, place_of, IsKept, HasNo}
+use Rattle.nfs_entries.specs.Listing.{PlaceValue, Row, AreFew, entry_of, of_cookie, standing, listed, place_of, IsKept, HasNo}
 use Rattle.nfs_entries.proofs.Cases.{by_number, if_false, same_some, true_and_false, in_head, in_tail}
 use Rattle.nfs_entries.proofs.Keys.{push_other, push_last}
 use Rattle.nfs_entries.proofs.Places.{not_equal, push_rises}
@@ -15,20 +14,20 @@ use Rattle.nfs_entries.proofs.Removals.{in_next}
 use Rattle.nfs_entries.proofs.Rows.{row_stands}
 
 -- the same is listed where the same stands at each place
-pub listed_same : (old new : List Row) (ps : List EntryPosition) → ((p : EntryPosition) → Contains ps p → standing new p ≡ standing old p) → listed new ps ≡ listed old ps
+pub listed_same : (old new : List Row) (ps : List PlaceValue) → ((p : PlaceValue) → Contains ps p → standing new p ≡ standing old p) → listed new ps ≡ listed old ps
 listed_same old new [] each = refl
 listed_same old new (p ∷ ps) each =
     ap (λ o. cons_option o (listed new ps)) (each p (in_head p ps)) ∙ ap (cons_option (standing old p)) (listed_same old new ps (λ q there. each q (in_tail p q ps there)))
 
-module _ (rows : List Row) (ps : List EntryPosition) (r : Row) (kept : IsKept rows ps r.1.cookie) (absent : HasNo rows r.0) where
+module _ (rows : List Row) (ps : List PlaceValue) (r : Row) (kept : IsKept rows ps r.1.cookie) (absent : HasNo rows r.0) where
   abbrev more : List Row
   more = rows ++ r ∷ []
 
-  abbrev at : EntryPosition
+  abbrev at : PlaceValue
   at = place_of r (length rows)
 
   -- what stood at a place stands there
-  pub still : (p : EntryPosition) → Contains ps p → standing more p ≡ standing rows p
+  pub still : (p : PlaceValue) → Contains ps p → standing more p ≡ standing rows p
   still p there = by_number p.index (length rows)
       (λ same. ap (of_cookie p.cookie) (ap (slice_get more) same ∙ push_last rows r)
       ∙ if_false (Some (entry_of r)) None (not_equal r.1.cookie p.cookie (λ same. absurd (let below = in_next 0 r.1.cookie ps p kept.rises there in omega (arith, below, same))))

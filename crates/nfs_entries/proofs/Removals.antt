@@ -5,8 +5,7 @@ use Rattle.std.specs.List.{filter, find, cons_option, swap_remove}
 use Rattle.std.proofs.lemmas.Bool.{eqb-true, eq-eqb, ltb-true, ltb-false}
 use Rattle.std.proofs.lemmas.Option.{slice_get_within, slice_get_past, slice_get-get_or}
 use Rattle.std.proofs.lemmas.Slice.Eq.{bytes_eq-Decides}
-use Rattle.nfs_entries.specs.declared.entry_data.EntryPosition.{EntryPosition}
-use Rattle.nfs_entries.specs.Listing.{Row, Entry, entry_of, of_cookie, standing, listed, place_of, is_live, has_name, without, led, settled, Rises, IsKept, IsRowOf}
+use Rattle.nfs_entries.specs.Listing.{PlaceValue, Row, Entry, entry_of, of_cookie, standing, listed, place_of, is_live, has_name, without, led, settled, Rises, IsKept, IsRowOf}
 use Rattle.nfs_entries.proofs.Cases.{by_test, by_number, if_true, if_false, same_some, not_both, true_and_false, head_or_tail, in_head, in_tail}
 use Rattle.nfs_entries.proofs.Keys.{take_get, take_history, set_get, set_other}
 use Rattle.nfs_entries.proofs.Places.{not_equal, led_rises, filter_rises}
@@ -24,25 +23,25 @@ cons_dropped name (Some e) es = by_test (has_name name e)
     (λ n. ap (λ o. cons_option o (without name es)) (if_false None (Some e) n) ∙ sym (if_true (e ∷ without name es) (without name es) (ap not n)))
 
 -- what is listed loses a name where each place does
-pub listed_without : (name : List ℕ) (old new : List Row) (f : EntryPosition → EntryPosition) (ps : List EntryPosition) → ((p : EntryPosition) → Contains ps p → standing new (f p) ≡ dropped name (standing old p)) → listed new (map f ps) ≡ without name (listed old ps)
+pub listed_without : (name : List ℕ) (old new : List Row) (f : PlaceValue → PlaceValue) (ps : List PlaceValue) → ((p : PlaceValue) → Contains ps p → standing new (f p) ≡ dropped name (standing old p)) → listed new (map f ps) ≡ without name (listed old ps)
 listed_without name old new f [] each = refl
 listed_without name old new f (p ∷ ps) each =
     ap (λ o. cons_option o (listed new (map f ps))) (each p (in_head p ps))
     ∙ ap (cons_option (dropped name (standing old p))) (listed_without name old new f ps (λ q there. each q (in_tail p q ps there)))
     ∙ cons_dropped name (standing old p) (listed old ps)
 
-pub map_self : (ps : List EntryPosition) → map (λ p. p) ps ≡ ps
+pub map_self : (ps : List PlaceValue) → map (λ p. p) ps ≡ ps
 map_self [] = refl
 map_self (p ∷ ps) = ap (λ qs. p ∷ qs) (map_self ps)
 
-pub contains_map : (f : EntryPosition → EntryPosition) (ps : List EntryPosition) (p : EntryPosition) → Contains ps p → Contains (map f ps) (f p)
+pub contains_map : (f : PlaceValue → PlaceValue) (ps : List PlaceValue) (p : PlaceValue) → Contains ps p → Contains (map f ps) (f p)
 contains_map f [] p there = absurd (let within = there.1 in omega (arith, within))
 contains_map f (x ∷ ps) p there = elim (head_or_tail x p ps there) [
   | inl same ↦ subst (λ q. Contains (f x ∷ map f ps) (f q)) same (in_head (f x) (map f ps))
   | inr rest ↦ in_tail (f x) (f p) (map f ps) (contains_map f ps p rest)
 ]
 
-pub contains_filter : (keep : EntryPosition → Bool) (ps : List EntryPosition) (p : EntryPosition) → Contains ps p → keep p ≡ true → Contains (filter keep ps) p
+pub contains_filter : (keep : PlaceValue → Bool) (ps : List PlaceValue) (p : PlaceValue) → Contains ps p → keep p ≡ true → Contains (filter keep ps) p
 contains_filter keep [] p there y = there
 contains_filter keep (x ∷ ps) p there y = elim (head_or_tail x p ps there) [
   | inl same ↦ subst (λ qs. Contains qs p) (sym (if_true (x ∷ filter keep ps) (filter keep ps) (ap keep same ∙ y))) (subst (λ q. Contains (x ∷ filter keep ps) q) same (in_head x (filter keep ps)))
@@ -51,34 +50,34 @@ contains_filter keep (x ∷ ps) p there y = elim (head_or_tail x p ps there) [
       (λ n. subst (λ qs. Contains qs p) (sym (if_false (x ∷ filter keep ps) (filter keep ps) n)) (contains_filter keep ps p rest y))
 ]
 
-pub in_low : (low next : ℕ) (ps : List EntryPosition) (p : EntryPosition) → Rises low ps next → Contains ps p → low ≤ p.cookie
+pub in_low : (low next : ℕ) (ps : List PlaceValue) (p : PlaceValue) → Rises low ps next → Contains ps p → low ≤ p.cookie
 in_low low next [] p rises there = absurd (let within = there.1 in omega (arith, within))
 in_low low next (x ∷ ps) p rises there = elim (head_or_tail x p ps there) [
   | inl same ↦ subst (λ q. low ≤ q.cookie) same rises.0
   | inr rest ↦ let up = in_low (suc x.cookie) next ps p rises.1 rest in let first = rises.0 in omega (arith, up, first)
 ]
 
-pub in_next : (low next : ℕ) (ps : List EntryPosition) (p : EntryPosition) → Rises low ps next → Contains ps p → p.cookie < next
+pub in_next : (low next : ℕ) (ps : List PlaceValue) (p : PlaceValue) → Rises low ps next → Contains ps p → p.cookie < next
 in_next low next [] p rises there = absurd (let within = there.1 in omega (arith, within))
 in_next low next (x ∷ ps) p rises there = elim (head_or_tail x p ps there) [
   | inl same ↦ subst (λ q. q.cookie < next) same (bound (suc x.cookie) ps rises.1)
   | inr rest ↦ in_next (suc x.cookie) next ps p rises.1 rest
 ]
   where
-    bound : (low : ℕ) (ps : List EntryPosition) → Rises low ps next → low ≤ next
+    bound : (low : ℕ) (ps : List PlaceValue) → Rises low ps next → low ≤ next
     bound low [] rises = rises
     bound low (p ∷ ps) rises = let up = bound (suc p.cookie) ps rises.1 in let first = rises.0 in omega (arith, up, first)
 
 -- a cookie has one place
-pub one_place : (low next : ℕ) (ps : List EntryPosition) (p q : EntryPosition) → Rises low ps next → Contains ps p → Contains ps q → p.cookie ≡ q.cookie → p ≡ q
+pub one_place : (low next : ℕ) (ps : List PlaceValue) (p q : PlaceValue) → Rises low ps next → Contains ps p → Contains ps q → p.cookie ≡ q.cookie → p ≡ q
 one_place low next [] p q rises cp cq same = absurd (let within = cp.1 in omega (arith, within))
 one_place low next (x ∷ ps) p q rises cp cq same = elim (head_or_tail x p ps cp) [
   | inl xp ↦ elim (head_or_tail x q ps cq) [
     | inl xq ↦ sym xp ∙ xq
-    | inr rest ↦ absurd (let up = in_low (suc x.cookie) next ps q rises.1 rest in let at = ap (λ (p : EntryPosition). p.cookie) xp in omega (arith, up, at, same))
+    | inr rest ↦ absurd (let up = in_low (suc x.cookie) next ps q rises.1 rest in let at = ap (λ (p : PlaceValue). p.cookie) xp in omega (arith, up, at, same))
   ]
   | inr here ↦ elim (head_or_tail x q ps cq) [
-    | inl xq ↦ absurd (let up = in_low (suc x.cookie) next ps p rises.1 here in let at = ap (λ (p : EntryPosition). p.cookie) xq in omega (arith, up, at, same))
+    | inl xq ↦ absurd (let up = in_low (suc x.cookie) next ps p rises.1 here in let at = ap (λ (p : PlaceValue). p.cookie) xq in omega (arith, up, at, same))
     | inr rest ↦ one_place (suc x.cookie) next ps p q rises.1 here rest same
   ]
 ]
@@ -106,9 +105,9 @@ goes old i d within =
       stay = λ j less other. take_get last _ j less ∙ set_other old i l j other;
     }
 
-module _ (name : List ℕ) (old new : List Row) (ps : List EntryPosition) (next i last : ℕ) (l r : Row) (kept : IsKept old ps next) (g : Goes old new i last l) (at_row : slice_get old i ≡ Some r) (named : bytes_eq r.0 name ≡ true) where
+module _ (name : List ℕ) (old new : List Row) (ps : List PlaceValue) (next i last : ℕ) (l r : Row) (kept : IsKept old ps next) (g : Goes old new i last l) (at_row : slice_get old i ≡ Some r) (named : bytes_eq r.0 name ≡ true) where
   -- another row's entry isn't the one that goes
-  pub stays : (p : EntryPosition) → (p.index ≡ i → ⊥) → dropped name (standing old p) ≡ standing old p
+  pub stays : (p : PlaceValue) → (p.index ≡ i → ⊥) → dropped name (standing old p) ≡ standing old p
   stays p other = by (standing old p) refl
     where
       by : (o : Option Entry) → standing old p ≡ o → dropped name o ≡ o
@@ -118,16 +117,16 @@ module _ (name : List ℕ) (old new : List Row) (ps : List EntryPosition) (next 
           absurd (other (kept.apart p.index i s.row r s.at_row at_row (ap (λ (e : Entry). e.name) s.shown ∙ (bytes_eq-Decides e.name name).0 y ∙ sym ((bytes_eq-Decides r.0 name).0 named)))))
           (λ n. if_false None (Some e) n)
 
-  pub stays_there : (p : EntryPosition) → (p.index ≡ i → ⊥) → slice_get new p.index ≡ slice_get old p.index → standing new p ≡ dropped name (standing old p)
+  pub stays_there : (p : PlaceValue) → (p.index ≡ i → ⊥) → slice_get new p.index ≡ slice_get old p.index → standing new p ≡ dropped name (standing old p)
   stays_there p other same = ap (of_cookie p.cookie) same ∙ sym (stays p other)
 
   -- the one that goes is no longer seen
-  pub goes_out : (p : EntryPosition) → p.index ≡ i → dropped name (standing old p) ≡ None
+  pub goes_out : (p : PlaceValue) → p.index ≡ i → dropped name (standing old p) ≡ None
   goes_out p same = ap (λ o. dropped name (of_cookie p.cookie o)) (ap (slice_get old) same ∙ at_row) ∙ by_test (nat_eq r.1.cookie p.cookie)
       (λ y. ap (dropped name) (if_true (Some (entry_of r)) None y) ∙ if_true None (Some (entry_of r)) named)
       (λ n. ap (dropped name) (if_false (Some (entry_of r)) None n))
 
-  pub none_there : (p : EntryPosition) → slice_get new p.index ≡ None → standing new p ≡ None
+  pub none_there : (p : PlaceValue) → slice_get new p.index ≡ None → standing new p ≡ None
   none_there p at = ap (of_cookie p.cookie) at
 
   -- the last row goes
@@ -139,7 +138,7 @@ module _ (name : List ℕ) (old new : List Row) (ps : List EntryPosition) (next 
       is_last : i ≡ last
       is_last = by_number i last (λ same. same) (λ other. let first = g.first in absurd (not_both gone (g.came (omega (arith, first, other)))))
 
-      where_none : (p : EntryPosition) → (p.index ≡ i → ⊥) → slice_get new p.index ≡ slice_get old p.index
+      where_none : (p : PlaceValue) → (p.index ≡ i → ⊥) → slice_get new p.index ≡ slice_get old p.index
       where_none p other = by_test (nat_lt p.index last)
           (λ y. g.stay p.index (ltb-true p.index last y) other)
           (λ n. let from = ltb-false p.index last n in g.none p.index from ∙ sym (g.history p.index (by_number p.index last (λ same. absurd (other (same ∙ sym is_last))) (λ differ. omega (arith, from, differ)))))
@@ -148,18 +147,18 @@ module _ (name : List ℕ) (old new : List Row) (ps : List EntryPosition) (next 
   pub last_in : i < last → listed new (led l.1.cookie i ps) ≡ without name (listed old ps)
   last_in less = listed_without name old new (λ p. cond (nat_eq p.cookie l.1.cookie) (record { cookie = l.1.cookie; index = i }) p) ps each
     where
-      old_or_none : (p : EntryPosition) → (p.index ≡ i → ⊥) → (p.index ≡ last → ⊥) → slice_get new p.index ≡ slice_get old p.index
+      old_or_none : (p : PlaceValue) → (p.index ≡ i → ⊥) → (p.index ≡ last → ⊥) → slice_get new p.index ≡ slice_get old p.index
       old_or_none p other differ = by_test (nat_lt p.index last)
           (λ y. g.stay p.index (ltb-true p.index last y) other)
           (λ n. let from = ltb-false p.index last n in g.none p.index from ∙ sym (g.history p.index (omega (arith, from, differ))))
 
-      of_last : (p : EntryPosition) → nat_eq p.cookie l.1.cookie ≡ false → of_cookie p.cookie (Some l) ≡ None
+      of_last : (p : PlaceValue) → nat_eq p.cookie l.1.cookie ≡ false → of_cookie p.cookie (Some l) ≡ None
       of_last p n = if_false (Some (entry_of l)) None (not_equal l.1.cookie p.cookie (λ same. true_and_false (eq-eqb p.cookie l.1.cookie (sym same)) n))
 
-      each : (p : EntryPosition) → Contains ps p → standing new (cond (nat_eq p.cookie l.1.cookie) (record { cookie = l.1.cookie; index = i }) p) ≡ dropped name (standing old p)
+      each : (p : PlaceValue) → Contains ps p → standing new (cond (nat_eq p.cookie l.1.cookie) (record { cookie = l.1.cookie; index = i }) p) ≡ dropped name (standing old p)
       each p there = by_test (nat_eq p.cookie l.1.cookie)
           (λ y. let at : p ≡ place_of l last = one_place 0 next ps p (place_of l last) kept.rises there (kept.placed last l g.at_last) (eqb-true p.cookie l.1.cookie y) in
-          let index : p.index ≡ last = ap (λ (p : EntryPosition). p.index) at in
+          let index : p.index ≡ last = ap (λ (p : PlaceValue). p.index) at in
           ap (standing new) (if_true (record { cookie = l.1.cookie; index = i }) p y) ∙ row_stands new i l (g.came less)
           ∙ sym (ap (standing old) at ∙ row_stands old last l g.at_last) ∙ sym (stays p (λ same. absurd (omega (arith, index, same, less)))))
           (λ n. ap (standing new) (if_false (record { cookie = l.1.cookie; index = i }) p n) ∙ by_number p.index i
@@ -196,7 +195,7 @@ module _ (name : List ℕ) (old new : List Row) (ps : List EntryPosition) (next 
           (contains_map (λ p. cond (nat_eq p.cookie l.1.cookie) (record { cookie = l.1.cookie; index = i }) p) ps (place_of l last) (kept.placed last l g.at_last)))
           (λ other. let was = kept.placed j s (old_of j s other at) in
           subst (Contains (led l.1.cookie i ps)) (if_false (record { cookie = l.1.cookie; index = i }) (place_of s j) (not_equal s.1.cookie l.1.cookie (λ same. absurd (
-          let one = ap (λ (p : EntryPosition). p.index) (one_place 0 next ps (place_of s j) (place_of l last) kept.rises was (kept.placed last l g.at_last) same) in
+          let one = ap (λ (p : PlaceValue). p.index) (one_place 0 next ps (place_of s j) (place_of l last) kept.rises was (kept.placed last l g.at_last) same) in
           let below = below_last j s at in
           omega (arith, one, below)))))
           (contains_map (λ p. cond (nat_eq p.cookie l.1.cookie) (record { cookie = l.1.cookie; index = i }) p) ps (place_of s j) was))
@@ -219,7 +218,7 @@ module _ (name : List ℕ) (old new : List Row) (ps : List EntryPosition) (next 
       subst (λ (s : Row). (listed new (led s.1.cookie i ps) ≡ without name (listed old ps)) × IsKept new (led s.1.cookie i ps) next) is (last_in less, kept_some less)
 
 -- dead places may go
-pub thinned : (rows : List Row) (ps qs : List EntryPosition) (next : ℕ) → (qs ≡ ps) ⊎ (qs ≡ filter (is_live rows) ps) → IsKept rows ps next → (listed rows qs ≡ listed rows ps) × IsKept rows qs next
+pub thinned : (rows : List Row) (ps qs : List PlaceValue) (next : ℕ) → (qs ≡ ps) ⊎ (qs ≡ filter (is_live rows) ps) → IsKept rows ps next → (listed rows qs ≡ listed rows ps) × IsKept rows qs next
 thinned rows ps qs next (inl same) kept = (ap (listed rows) same, subst (λ l. IsKept rows l next) (sym same) kept)
 thinned rows ps qs next (inr less) kept = (
   ap (listed rows) less ∙ listed_live rows ps,
@@ -231,7 +230,7 @@ thinned rows ps qs next (inr less) kept = (
 )
 
 -- what a removal leaves
-pub removed : (name : List ℕ) (old new : List Row) (ps qs ts : List EntryPosition) (next i number : ℕ) → IsKept old ps next → IsRowOf old name i number
+pub removed : (name : List ℕ) (old new : List Row) (ps qs ts : List PlaceValue) (next i number : ℕ) → IsKept old ps next → IsRowOf old name i number
     → (o : Option Row) → o ≡ slice_get old i → IfSome o (λ d. new ≡ swap_remove old i d) → qs ≡ settled i (slice_get new i) ps → (ts ≡ qs) ⊎ (ts ≡ filter (is_live new) qs)
     → (listed new ts ≡ without name (listed old ps)) × IsKept new ts next
 removed name old new ps qs ts next i number kept is None at swapped after thin = absurd (not_both (sym at) is.at_row)
@@ -256,7 +255,7 @@ counted None es y = cc
 counted (Some e) es y = refl
 
 -- where dead places are gone, each has its entry
-pub each_live : (rows : List Row) (ps : List EntryPosition) → length (listed rows (filter (is_live rows) ps)) ≡ length (filter (is_live rows) ps)
+pub each_live : (rows : List Row) (ps : List PlaceValue) → length (listed rows (filter (is_live rows) ps)) ≡ length (filter (is_live rows) ps)
 each_live rows [] = refl
 each_live rows (p ∷ ps) = let rest = filter (is_live rows) ps in by_test (is_live rows p)
     (λ y. subst (λ qs. length (listed rows qs) ≡ length qs) (sym (if_true (p ∷ rest) rest y)) (counted (standing rows p) (listed rows rest) y ∙ ap suc (each_live rows ps)))

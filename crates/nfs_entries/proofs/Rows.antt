@@ -4,18 +4,17 @@ use Rattle.std.specs.Prelude.{slice_get, Contains}
 use Rattle.std.specs.List.{filter, find, cons_option}
 use Rattle.std.proofs.lemmas.Bool.{eqb-true, eq-eqb}
 use Rattle.std.proofs.lemmas.Slice.Eq.{bytes_eq-Decides}
-use Rattle.nfs_entries.specs.declared.entry_data.EntryPosition.{EntryPosition}
-use Rattle.nfs_entries.specs.Listing.{Row, Entry, entry_of, of_cookie, standing, listed, place_of, is_live, has_name, number_named, IsKept, IsRowOf, HasNo}
+use Rattle.nfs_entries.specs.Listing.{PlaceValue, Row, Entry, entry_of, of_cookie, standing, listed, place_of, is_live, has_name, number_named, IsKept, IsRowOf, HasNo}
 use Rattle.nfs_entries.proofs.Cases.{by_test, if_true, if_false, same_some, not_both, true_and_false, head_or_tail}
 
 -- the row of an entry that stands at a place
-pub record Stands (rows : List Row) (p : EntryPosition) (e : Entry) : Type 0 where
+pub record Stands (rows : List Row) (p : PlaceValue) (e : Entry) : Type 0 where
   pub row : Row
   pub at_row : slice_get rows p.index ≡ Some row
   pub cookie : row.1.cookie ≡ p.cookie
   pub shown : entry_of row ≡ e
 
-pub stands : (rows : List Row) (p : EntryPosition) (e : Entry) → standing rows p ≡ Some e → Stands rows p e
+pub stands : (rows : List Row) (p : PlaceValue) (e : Entry) → standing rows p ≡ Some e → Stands rows p e
 stands rows p e is = by (slice_get rows p.index) refl is
   where
     by : (o : Option Row) → slice_get rows p.index ≡ o → of_cookie p.cookie o ≡ Some e → Stands rows p e
@@ -29,15 +28,15 @@ pub row_stands : (rows : List Row) (i : ℕ) (r : Row) → slice_get rows i ≡ 
 row_stands rows i r at = ap (of_cookie r.1.cookie) at ∙ if_true (Some (entry_of r)) None (eq-eqb r.1.cookie r.1.cookie refl)
 
 -- an entry that stands at a place has its cookie
-pub same_cookie : (rows : List Row) (p : EntryPosition) (e : Entry) → standing rows p ≡ Some e → e.cookie ≡ p.cookie
+pub same_cookie : (rows : List Row) (p : PlaceValue) (e : Entry) → standing rows p ≡ Some e → e.cookie ≡ p.cookie
 same_cookie rows p e is = let s = stands rows p e is in sym (ap (λ (e : Entry). e.cookie) s.shown) ∙ s.cookie
 
 -- those after a cookie are listed of the places after it
-pub listed_after : (cookie : ℕ) (rows : List Row) (ps : List EntryPosition) → listed rows (filter (λ p. nat_lt cookie p.cookie) ps) ≡ filter (λ e. nat_lt cookie e.cookie) (listed rows ps)
+pub listed_after : (cookie : ℕ) (rows : List Row) (ps : List PlaceValue) → listed rows (filter (λ p. nat_lt cookie p.cookie) ps) ≡ filter (λ e. nat_lt cookie e.cookie) (listed rows ps)
 listed_after cookie rows [] = refl
 listed_after cookie rows (p ∷ ps) = by (standing rows p) refl (listed_after cookie rows ps)
   where
-    rest : List EntryPosition
+    rest : List PlaceValue
     rest = filter (λ p. nat_lt cookie p.cookie) ps
 
     shown : List Entry
@@ -54,11 +53,11 @@ listed_after cookie rows (p ∷ ps) = by (standing rows p) refl (listed_after co
         ∙ sym (if_false (e ∷ shown) shown (ap (nat_lt cookie) (same_cookie rows p e is) ∙ n)) ∙ sym (ap (λ o. filter (λ e. nat_lt cookie e.cookie) (cons_option o (listed rows ps))) is))
 
 -- without the dead places the same is listed
-pub listed_live : (rows : List Row) (ps : List EntryPosition) → listed rows (filter (is_live rows) ps) ≡ listed rows ps
+pub listed_live : (rows : List Row) (ps : List PlaceValue) → listed rows (filter (is_live rows) ps) ≡ listed rows ps
 listed_live rows [] = refl
 listed_live rows (p ∷ ps) = by (standing rows p) refl (listed_live rows ps)
   where
-    rest : List EntryPosition
+    rest : List PlaceValue
     rest = filter (is_live rows) ps
 
     by : (o : Option Entry) → standing rows p ≡ o → listed rows rest ≡ listed rows ps → listed rows (cond (is_some (standing rows p)) (p ∷ rest) rest) ≡ cons_option (standing rows p) (listed rows ps)
@@ -77,7 +76,7 @@ abbrev pub AreApart : List Row → Type 0
 AreApart rows = (i j : ℕ) (r s : Row) → slice_get rows i ≡ Some r → slice_get rows j ≡ Some s → r.0 ≡ s.0 → i ≡ j
 
 -- a row whose place is there is what its name finds
-pub found_listed : (name : List ℕ) (rows : List Row) (ps : List EntryPosition) (i : ℕ) (r : Row) → AreApart rows → slice_get rows i ≡ Some r → bytes_eq r.0 name ≡ true → Contains ps (place_of r i) → find (has_name name) (listed rows ps) ≡ Some (entry_of r)
+pub found_listed : (name : List ℕ) (rows : List Row) (ps : List PlaceValue) (i : ℕ) (r : Row) → AreApart rows → slice_get rows i ≡ Some r → bytes_eq r.0 name ≡ true → Contains ps (place_of r i) → find (has_name name) (listed rows ps) ≡ Some (entry_of r)
 found_listed name rows [] i r apart at named there = absurd (let within = there.1 in omega (arith, within))
 found_listed name rows (p ∷ ps) i r apart at named there = by (standing rows p) refl (places_after (found_listed name rows ps i r apart at named))
   where
@@ -104,7 +103,7 @@ found_listed name rows (p ∷ ps) i r apart at named there = by (standing rows p
         ∙ ih (λ same. true_and_false (ap (λ (e : Entry). bytes_eq e.name name) (same_some (sym is ∙ itself same)) ∙ named) n)))
 
 -- a name that no row has finds none
-pub none_listed : (name : List ℕ) (rows : List Row) (ps : List EntryPosition) → ((i : ℕ) (r : Row) → slice_get rows i ≡ Some r → bytes_eq r.0 name ≡ false) → find (has_name name) (listed rows ps) ≡ None
+pub none_listed : (name : List ℕ) (rows : List Row) (ps : List PlaceValue) → ((i : ℕ) (r : Row) → slice_get rows i ≡ Some r → bytes_eq r.0 name ≡ false) → find (has_name name) (listed rows ps) ≡ None
 none_listed name rows [] absent = refl
 none_listed name rows (p ∷ ps) absent = by (standing rows p) refl (none_listed name rows ps absent)
   where
@@ -117,26 +116,26 @@ none_listed name rows (p ∷ ps) absent = by (standing rows p) refl (none_listed
         subst goal (sym is) (if_false (Some e) (find (has_name name) (listed rows ps)) (sym (ap (λ (e : Entry). bytes_eq e.name name) s.shown) ∙ absent p.index s.row s.at_row) ∙ ih)
 
 -- what a name finds, as a number
-pub found_number : (name : List ℕ) (rows : List Row) (ps : List EntryPosition) (next index number : ℕ) → IsKept rows ps next → IsRowOf rows name index number → number_named name (listed rows ps) ≡ Some number
+pub found_number : (name : List ℕ) (rows : List Row) (ps : List PlaceValue) (next index number : ℕ) → IsKept rows ps next → IsRowOf rows name index number → number_named name (listed rows ps) ≡ Some number
 found_number name rows ps next index number kept is =
     ap (option_map (λ (e : Entry). e.number)) (found_listed name rows ps index is.row kept.apart is.at_row is.named (kept.placed index is.row is.at_row))
     ∙ ap Some (sym is.number_is)
 
-pub none_number : (name : List ℕ) (rows : List Row) (ps : List EntryPosition) → HasNo rows name → number_named name (listed rows ps) ≡ None
+pub none_number : (name : List ℕ) (rows : List Row) (ps : List PlaceValue) → HasNo rows name → number_named name (listed rows ps) ≡ None
 none_number name rows ps absent = ap (option_map (λ (e : Entry). e.number)) (none_listed name rows ps absent)
 
 -- where nothing is found, no row has the name
-pub absent_from : (name : List ℕ) (rows : List Row) (ps : List EntryPosition) (next : ℕ) → IsKept rows ps next → find (has_name name) (listed rows ps) ≡ None → HasNo rows name
+pub absent_from : (name : List ℕ) (rows : List Row) (ps : List PlaceValue) (next : ℕ) → IsKept rows ps next → find (has_name name) (listed rows ps) ≡ None → HasNo rows name
 absent_from name rows ps next kept none i r at = by_test (bytes_eq r.0 name)
     (λ y. absurd (not_both none (found_listed name rows ps i r kept.apart at y (kept.placed i r at))))
     (λ n. n)
 
 -- nothing is listed where there are no rows, and else something is
-pub none_of : (ps : List EntryPosition) → listed [] ps ≡ []
+pub none_of : (ps : List PlaceValue) → listed [] ps ≡ []
 none_of [] = refl
 none_of (p ∷ ps) = none_of ps
 
-pub some_of : (rows : List Row) (ps : List EntryPosition) (next : ℕ) → IsKept rows ps next → listed rows ps ≡ [] → rows ≡ []
+pub some_of : (rows : List Row) (ps : List PlaceValue) (next : ℕ) → IsKept rows ps next → listed rows ps ≡ [] → rows ≡ []
 some_of [] ps next kept none = refl
 some_of (r ∷ rows) ps next kept none = absurd (not_both (ap (find (has_name r.0)) none)
     (found_listed r.0 (r ∷ rows) ps 0 r kept.apart refl ((bytes_eq-Decides r.0 r.0).1 refl) (kept.placed 0 r refl)))

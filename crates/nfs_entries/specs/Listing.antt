@@ -1,8 +1,7 @@
 -- A directory's entries by rising cookie, and how they are kept.
 use Rattle.std.specs.Prelude.{◌≡◌, ◌⊎◌, ℕ, ◌+◌, ◌*◌, Bool, true, false, List, Option, None, Some, Contains, is_some, map, nat_eq, bytes_eq, slice_get, option_map, find, filter, nat_lt, not, cond}
 use Rattle.std.specs.List.{filter_map}
-use Rattle.std.specs.Prelude.{suc, [], ◌∷◌, ◌≤◌, length}
-use Rattle.nfs_entries.specs.declared.entry_data.EntryPosition.{EntryPosition}
+use Rattle.std.specs.Prelude.{suc, [], ◌∷◌, ◌≤◌, ◌-◌, ◌^◌, length}
 
 -- an entry as callers see it
 pub record Entry : Type 0 where
@@ -41,6 +40,11 @@ pub record KeptValue : Type 0 where
   pub cookie : ℕ
   pub number : ℕ
 
+-- where the entry of a cookie is kept
+pub record PlaceValue : Type 0 where
+  pub cookie : ℕ
+  pub index : ℕ
+
 -- a name, with what is kept beside it
 abbrev pub Row : Type 0
 Row = List ℕ × KeptValue
@@ -54,25 +58,25 @@ of_cookie cookie None = None
 of_cookie cookie (Some r) = cond (nat_eq r.1.cookie cookie) (Some (entry_of r)) None
 
 -- the entry that stands at a place: none where the row there is another's by now
-abbrev pub standing : List Row → EntryPosition → Option Entry
+abbrev pub standing : List Row → PlaceValue → Option Entry
 standing rows p = of_cookie p.cookie (slice_get rows p.index)
 
-abbrev pub listed : List Row → List EntryPosition → List Entry
+abbrev pub listed : List Row → List PlaceValue → List Entry
 listed rows places = filter_map (standing rows) places
 
-abbrev pub place_of : Row → ℕ → EntryPosition
+abbrev pub place_of : Row → ℕ → PlaceValue
 place_of r i = record { cookie = r.1.cookie; index = i }
 
 -- whether the entry of a place is still there
-abbrev pub is_live : List Row → EntryPosition → Bool
+abbrev pub is_live : List Row → PlaceValue → Bool
 is_live rows p = is_some (standing rows p)
 
 -- the places, where that of a cookie leads to this row
-abbrev pub led : ℕ → ℕ → List EntryPosition → List EntryPosition
+abbrev pub led : ℕ → ℕ → List PlaceValue → List PlaceValue
 led cookie index places = map (λ p. cond (nat_eq p.cookie cookie) (record { cookie = cookie; index = index }) p) places
 
 -- the places, where that of the row at an index leads to it
-abbrev pub settled : ℕ → Option Row → List EntryPosition → List EntryPosition
+abbrev pub settled : ℕ → Option Row → List PlaceValue → List PlaceValue
 settled index None places = places
 settled index (Some r) places = led r.1.cookie index places
 
@@ -88,16 +92,20 @@ abbrev pub HasNo : List Row → List ℕ → Type 0
 HasNo rows name = (i : ℕ) (r : Row) → slice_get rows i ≡ Some r → bytes_eq r.0 name ≡ false
 
 -- places stand by rising cookie, from the low one on and below the next one
-abbrev pub Rises : ℕ → List EntryPosition → ℕ → Type 0
+abbrev pub Rises : ℕ → List PlaceValue → ℕ → Type 0
 Rises low [] next = low ≤ next
 Rises low (p ∷ ps) next = (low ≤ p.cookie) × Rises (suc p.cookie) ps next
 
 -- places stand by rising cookie, each row has its place, and no two have one name
-pub record IsKept (rows : List Row) (places : List EntryPosition) (next : ℕ) : Type 0 where
+pub record IsKept (rows : List Row) (places : List PlaceValue) (next : ℕ) : Type 0 where
   pub rises : Rises 0 places next
   pub placed : (i : ℕ) (r : Row) → slice_get rows i ≡ Some r → Contains places (place_of r i)
   pub apart : (i j : ℕ) (r s : Row) → slice_get rows i ≡ Some r → slice_get rows j ≡ Some s → r.0 ≡ s.0 → i ≡ j
 
+-- the most rows: a place has four bytes for the index of one
+abbrev pub max_rows : ℕ
+max_rows = 2 ^ 32 - 1
+
 -- Memory that is kept: no place is dead, or half of the places, rounded down, are at most 16 more than the rows.
-abbrev pub AreFew : List Row → List EntryPosition → Type 0
+abbrev pub AreFew : List Row → List PlaceValue → Type 0
 AreFew rows places = (length (listed rows places) ≡ length places) ⊎ (length places ≤ 2 * length rows + 33)

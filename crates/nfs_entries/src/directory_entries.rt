@@ -2,7 +2,7 @@
 //! lead to them. A name stands in its row, unless it is long. An entry that goes leaves its place
 //! behind, dead; where half of them are, they go.
 ghost use Rattle.std.specs.Prelude.{ℕ, IsTrue, ◌↔◌, ◌≡◌, ◌+◌, ◌<◌, ◌≤◌, ◌++◌, ◌∷◌, [], false, OnOk, OnErr, IfSome, IfNone, ◌⊎◌, None};
-ghost use Rattle.std.specs.Prelude.{nat_le, nat_lt, option_map, slice_get, filter, vec_len, vec_capacity, ◌^◌};
+ghost use Rattle.std.specs.Prelude.{nat_le, nat_lt, option_map, slice_get, filter, length, vec_len, vec_capacity, ◌^◌};
 ghost use Rattle.std.specs.Iterator.{YieldsFirstBy, item_count};
 ghost use Rattle.nfs_entries.specs.Listing.{AreFew, entries_beyond, entry_named, number_named, without, listed, led, is_live, settled, IsRowOf, HasNo, Rises};
 ghost use Rattle.nfs_entries.specs.Listing as spec;
@@ -17,6 +17,9 @@ use std::marker::Model;
 
 // So many dead places are left where there are few entries.
 const FEW: usize = 16;
+
+// A place has four bytes for the index of its row.
+const MAX_ROWS: usize = u32::MAX as usize;
 
 /// An entry.
 #[derive(Clone, Copy)]
@@ -38,19 +41,19 @@ pub struct DirectoryEntries {
 }
 
 impl Model for DirectoryEntries {
-    ghost use Rattle.std.specs.Prelude.{◌-◌, min, vec_len, vec_capacity};
+    ghost use Rattle.std.specs.Prelude.{◌≤◌, ◌-◌, min, length, vec_len, vec_capacity};
     ghost use Rattle.indexmap.specs.IndexMap.{spare as room};
-    ghost use Rattle.nfs_entries.specs.Listing.{Listed, listed, AreFew, IsKept};
+    ghost use Rattle.nfs_entries.specs.Listing.{Listed, listed, AreFew, IsKept, max_rows};
 
     ghost Value = { Listed };
 
     ghost view = { λ m. record {
       entries = listed m.rows.entries m.places.items;
       next = m.next;
-      spare = min (room m.rows) (vec_capacity m.places - vec_len m.places);
+      spare = min (max_rows - length m.rows.entries) (min (room m.rows) (vec_capacity m.places - vec_len m.places));
     } };
 
-    ghost invariant = { λ m. IsKept m.rows.entries m.places.items m.next × AreFew m.rows.entries m.places.items };
+    ghost invariant = { λ m. IsKept m.rows.entries m.places.items m.next × AreFew m.rows.entries m.places.items × (length m.rows.entries ≤ max_rows) };
 }
 
 impl DirectoryEntries {
@@ -112,13 +115,16 @@ impl DirectoryEntries {
         }
     }
 
-    /// Room for one entry more. Refused only without memory where there is none.
+    /// Room for one entry more. `AllocError` where there is no room, and either no memory or 2^32 - 1 entries.
     pub fn reserve(&mut self) -> Result<(), AllocError>
         ensures ok { OnOk result (0 < self.new.spare) }
         ensures full { OnErr result (self.old.spare ≡ 0) }
         ensures entries { self.new.entries ≡ self.old.entries }
         ensures next { self.new.next ≡ self.old.next }
     {
+        if self.rows.len() >= MAX_ROWS {
+            return Err(AllocError);
+        }
         self.rows.reserve(1)?;
         self.places.reserve(1)
     }
@@ -134,11 +140,11 @@ impl DirectoryEntries {
     {
         let cookie = self.next;
         self.next += 1;
-        let index = self.rows.len();
+        let index = self.rows.len() as u32;
         self.rows
             .insert(name, EntryData::new(cookie, number))
             .unwrap();
-        self.places.push(EntryPosition { cookie, index }).unwrap();
+        self.places.push(EntryPosition::new(cookie, index)).unwrap();
     }
 
     /// Takes the entry of a name out, if there is one. It takes no memory, and leaves room for an
@@ -152,7 +158,7 @@ impl DirectoryEntries {
             return;
         };
         self.rows.swap_remove_index(index);
-        settle(&mut self.places, &self.rows, index);
+        settle(&mut self.places, &self.rows, index as u32);
         thin(&mut self.places, &self.rows);
     }
 }
@@ -187,7 +193,7 @@ fn places_after(places: &[EntryPosition], cookie: u64) -> &[EntryPosition]
     let first = places.partition_point(
         |place: &EntryPosition| -> bool
             ensures { result ≡ nat_le place.now.cookie cookie }
-        { place.cookie <= cookie },
+        { place.cookie() <= cookie },
     );
     &places[first..]
 }
@@ -213,6 +219,7 @@ fn first_live<'a>(
 #[inline(always)]
 fn row_named(rows: &IndexMap<EntryName, EntryData>, name: &[u8]) -> Option<(usize, Number)>
     ensures found { IfSome result (λ f. IsRowOf rows.now.entries name.now f.0 f.1.0) }
+    ensures within { IfSome result (λ f. f.0 < length rows.now.entries) }
     ensures none { IfNone result (HasNo rows.now.entries name.now) }
 {
     match rows.get_full(SoughtName { bytes: name }) {
@@ -222,19 +229,19 @@ fn row_named(rows: &IndexMap<EntryName, EntryData>, name: &[u8]) -> Option<(usiz
 }
 
 // The place of the row that came to an index, if one did, leads there.
-fn settle(places: &mut Vec<EntryPosition>, rows: &IndexMap<EntryName, EntryData>, index: usize)
+fn settle(places: &mut Vec<EntryPosition>, rows: &IndexMap<EntryName, EntryData>, index: u32)
     requires { (next : ℕ) × Rises 0 places.old.items next }
     ensures items { places.new.items ≡ settled index (slice_get rows.now.entries index) places.old.items }
     ensures len { vec_len places.new ≡ vec_len places.old }
     ensures capacity { vec_capacity places.new ≡ vec_capacity places.old }
 {
-    if let Some((_, kept)) = rows.get_index(index) {
+    if let Some((_, kept)) = rows.get_index(index as usize) {
         lead(places, kept.cookie(), index);
     }
 }
 
 // The place of a cookie leads to this row.
-fn lead(places: &mut Vec<EntryPosition>, cookie: u64, index: usize)
+fn lead(places: &mut Vec<EntryPosition>, cookie: u64, index: u32)
     requires { (next : ℕ) × Rises 0 places.old.items next }
     ensures items { places.new.items ≡ led cookie index places.old.items }
     ensures len { vec_len places.new ≡ vec_len places.old }
@@ -248,7 +255,7 @@ fn lead(places: &mut Vec<EntryPosition>, cookie: u64, index: usize)
 // The same where the place stands as far after the first as its cookie is above the first's, as it does
 // up to the first place that went. `false` elsewhere, and then nothing changes.
 #[inline(always)]
-fn lead_at_once(places: &mut Vec<EntryPosition>, cookie: u64, index: usize) -> bool
+fn lead_at_once(places: &mut Vec<EntryPosition>, cookie: u64, index: u32) -> bool
     requires { (next : ℕ) × Rises 0 places.old.items next }
     ensures items { IsTrue result → places.new.items ≡ led cookie index places.old.items }
     ensures same { (result ≡ false) → places.new.items ≡ places.old.items }
@@ -256,19 +263,19 @@ fn lead_at_once(places: &mut Vec<EntryPosition>, cookie: u64, index: usize) -> b
     ensures capacity { vec_capacity places.new ≡ vec_capacity places.old }
 {
     let first = match places.first() {
-        Some(place) => place.cookie,
+        Some(place) => place.cookie(),
         None => return false,
     };
     let at = cookie.saturating_sub(first) as usize;
-    if at < places.len() && places[at].cookie == cookie {
-        places[at] = EntryPosition { cookie, index };
+    if at < places.len() && places[at].cookie() == cookie {
+        places[at] = EntryPosition::new(cookie, index);
         true
     } else {
         false
     }
 }
 
-fn lead_by_halving(places: &mut Vec<EntryPosition>, cookie: u64, index: usize)
+fn lead_by_halving(places: &mut Vec<EntryPosition>, cookie: u64, index: u32)
     requires { (next : ℕ) × Rises 0 places.old.items next }
     ensures items { places.new.items ≡ led cookie index places.old.items }
     ensures len { vec_len places.new ≡ vec_len places.old }
@@ -277,10 +284,10 @@ fn lead_by_halving(places: &mut Vec<EntryPosition>, cookie: u64, index: usize)
     let at = places.as_slice().partition_point(
         |place: &EntryPosition| -> bool
             ensures { result ≡ nat_lt place.now.cookie cookie }
-        { place.cookie < cookie },
+        { place.cookie() < cookie },
     );
-    if at < places.len() && places[at].cookie == cookie {
-        places[at] = EntryPosition { cookie, index };
+    if at < places.len() && places[at].cookie() == cookie {
+        places[at] = EntryPosition::new(cookie, index);
     }
 }
 
@@ -317,9 +324,9 @@ fn standing<'a>(
 ) -> Option<EntryView<'a>>
     ensures { option_map entry_seen result ≡ spec.standing rows.now.entries place.now }
 {
-    match rows.get_index(place.index) {
-        Some((name, kept)) if kept.cookie() == place.cookie => Some(EntryView {
-            cookie: place.cookie,
+    match rows.get_index(place.index()) {
+        Some((name, kept)) if kept.cookie() == place.cookie() => Some(EntryView {
+            cookie: place.cookie(),
             name: name.as_slice(),
             number: kept.number(),
         }),

@@ -52,9 +52,50 @@ impl EntryData {
     }
 }
 
-/// Where the entry of a cookie is kept: in the row of this index, if that has its cookie.
-#[derive(Clone, Copy)]
+/// Where the entry of a cookie is kept: in the row of this index, if that has its cookie. As bytes, the
+/// cookie needs no padding, so that a directory takes 12 bytes for it in place of 16.
+#[derive(Drop)]
 pub(crate) struct EntryPosition {
-    pub(crate) cookie: u64,
-    pub(crate) index: usize,
+    cookie: [u8; 8],
+    index: u32,
+}
+
+const _: () = prove!(size_of::<EntryPosition>() == 12);
+
+impl Model for EntryPosition {
+    ghost use Rattle.std.specs.Int.{w64, from_le_bytes};
+    ghost use Rattle.nfs_entries.specs.Listing.{PlaceValue};
+
+    ghost Value = { PlaceValue };
+
+    ghost view = { λ p. record { cookie = from_le_bytes w64 p.cookie; index = p.index } };
+}
+
+impl EntryPosition {
+    /// A cookie, and the index of a row.
+    #[inline(always)]
+    pub(crate) fn new(cookie: u64, index: u32) -> EntryPosition
+        ensures { result ≡ record { cookie = cookie; index = index } }
+    {
+        EntryPosition {
+            cookie: cookie.to_le_bytes(),
+            index,
+        }
+    }
+
+    /// Where a listing goes on after the entry.
+    #[inline(always)]
+    pub(crate) fn cookie(&self) -> u64
+        ensures { result ≡ self.now.cookie }
+    {
+        u64::from_le_bytes(self.cookie)
+    }
+
+    /// The index of the row.
+    #[inline(always)]
+    pub(crate) fn index(&self) -> usize
+        ensures { result ≡ self.now.index }
+    {
+        self.index as usize
+    }
 }

@@ -1,4 +1,4 @@
-use Rattle.std.proofs.Common.{◌≡◌, ◌++◌, ◌∷◌, [], bytes_eq, length, suc, if◌then◌else◌, ap, sym, subst, ◌∙◌, arith}
+use Rattle.std.proofs.Common.{rules, ◌≡◌, ◌++◌, ◌∷◌, [], bytes_eq, length, suc, if◌then◌else◌, ap, sym, subst, ◌∙◌, arith}
 use Rattle.std.specs.Prelude.{find, is_ok}
 use Rattle.std.proofs.lemmas.Result.{IfOk-at_ok}
 use Rattle.indexmap.specs.IndexMap.{insert_entry}
@@ -19,13 +19,14 @@ invariant_of-self c =
     let absent : HasNo rows c.args.name = absent_from c.args.name rows places c.self.inside.next c.self.invariant.0 (ap (λ (v : Listed). find (has_name c.args.name) v.entries) c.self.view_is ∙ c.requires.absent) in
     let inserted : c.insert.new.self.entries ≡ insert_entry bytes_eq rows c.args.name kept = IfOk-at_ok (λ _. c.insert.new.self.entries ≡ insert_entry bytes_eq rows c.args.name c.new.result) c.unwrap.ensures c.insert.ensures.entries ∙ (λ i. insert_entry bytes_eq rows c.args.name (c.new.ensures i)) in
     let new_rows : c.insert.new.self.entries ≡ rows ++ row ∷ [] = inserted ∙ insert_entry-new bytes_eq c.self.inside.rows c.args.name kept (unlooked (bytes_eq c.args.name) rows (λ i r at. flipped c.args.name r.0 ∙ absent i r at)) in
-    let pushed : c.push.new.self.items ≡ places ++ (record { cookie = c.self.inside.next; index = c.len-index.result }) ∷ [] = c.push.ensures.items ∙ ap (λ r. if is_ok r then places ++ (record { cookie = c.self.inside.next; index = c.len-index.result }) ∷ [] else places) c.unwrap-2.ensures in
-    let new_places : c.push.new.self.items ≡ places ++ place_of row (length rows) ∷ [] = pushed ∙ ap (λ n. places ++ (record { cookie = c.self.inside.next; index = n }) ∷ []) c.len-index.ensures.len in (
+    let pushed : c.push.new.self.items ≡ places ++ c.new-2.result ∷ [] = c.push.ensures.items ∙ ap (λ r. if is_ok r then places ++ c.new-2.result ∷ [] else places) c.unwrap-2.ensures in
+    let new_places : c.push.new.self.items ≡ places ++ place_of row (length rows) ∷ [] = pushed ∙ ap (λ p. places ++ p ∷ []) c.new-2.ensures ∙ ap (λ n. places ++ (record { cookie = c.self.inside.next; index = n }) ∷ []) c.len-index.ensures.len in (
       subst (λ n. IsKept c.insert.new.self.entries c.push.new.self.items n) (omega arith)
           (subst (λ ps. IsKept c.insert.new.self.entries ps (suc c.self.inside.next)) (sym new_places)
           (subst (λ rs. IsKept rs (places ++ place_of row (length rows) ∷ []) (suc c.self.inside.next)) (sym new_rows) (kept_more rows places row c.self.invariant.0 absent))),
       subst (λ ps. AreFew c.insert.new.self.entries ps) (sym new_places)
           (subst (λ rs. AreFew rs (places ++ place_of row (length rows) ∷ [])) (sym new_rows) (few_more rows places row c.self.invariant.0 absent c.self.invariant.1)),
+      search rules,
     )
 
 pub returns-clause-entries : goal.returns-clause-entries
@@ -37,7 +38,7 @@ returns-clause-entries c =
     let absent : HasNo rows c.args.name = absent_from c.args.name rows places c.self.inside.next c.self.invariant.0 (ap (λ (v : Listed). find (has_name c.args.name) v.entries) c.self.view_is ∙ c.requires.absent) in
     let inserted : c.insert.new.self.entries ≡ insert_entry bytes_eq rows c.args.name kept = IfOk-at_ok (λ _. c.insert.new.self.entries ≡ insert_entry bytes_eq rows c.args.name c.new.result) c.unwrap.ensures c.insert.ensures.entries ∙ (λ i. insert_entry bytes_eq rows c.args.name (c.new.ensures i)) in
     let new_rows : c.insert.new.self.entries ≡ rows ++ row ∷ [] = inserted ∙ insert_entry-new bytes_eq c.self.inside.rows c.args.name kept (unlooked (bytes_eq c.args.name) rows (λ i r at. flipped c.args.name r.0 ∙ absent i r at)) in
-    let pushed : c.push.new.self.items ≡ places ++ (record { cookie = c.self.inside.next; index = c.len-index.result }) ∷ [] = c.push.ensures.items ∙ ap (λ r. if is_ok r then places ++ (record { cookie = c.self.inside.next; index = c.len-index.result }) ∷ [] else places) c.unwrap-2.ensures in
-    let new_places : c.push.new.self.items ≡ places ++ place_of row (length rows) ∷ [] = pushed ∙ ap (λ n. places ++ (record { cookie = c.self.inside.next; index = n }) ∷ []) c.len-index.ensures.len in
+    let pushed : c.push.new.self.items ≡ places ++ c.new-2.result ∷ [] = c.push.ensures.items ∙ ap (λ r. if is_ok r then places ++ c.new-2.result ∷ [] else places) c.unwrap-2.ensures in
+    let new_places : c.push.new.self.items ≡ places ++ place_of row (length rows) ∷ [] = pushed ∙ ap (λ p. places ++ p ∷ []) c.new-2.ensures ∙ ap (λ n. places ++ (record { cookie = c.self.inside.next; index = n }) ∷ []) c.len-index.ensures.len in
     (λ i. listed (new_rows i) (new_places i)) ∙ listed_more rows places row c.self.invariant.0 absent
     ∙ ap (λ (v : Listed). v.entries ++ (record { cookie = v.next; name = c.args.name; number = c.args.number.0 }) ∷ []) c.self.view_is

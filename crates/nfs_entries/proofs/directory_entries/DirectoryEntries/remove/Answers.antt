@@ -1,4 +1,4 @@
-use Rattle.std.proofs.Common.{ap, sym, ◌∙◌}
+use Rattle.std.proofs.Common.{rules, ap, sym, ◌∙◌}
 use Rattle.nfs_entries.specs.Listing.{Listed, listed, without}
 use Rattle.nfs_entries.proofs.Rows.{none_listed}
 use Rattle.nfs_entries.proofs.Removals.{removed, without_none}
@@ -15,6 +15,7 @@ invariant_of-self c = (
   (removed c.args.name.now c.self.inside.rows.entries c.swap_remove_index.new.self.entries c.self.inside.places.items c.settle.new.places.items c.thin.new.places.items c.self.inside.next _ _ c.self.invariant.0 c.in-Some.ensures.found
       c.swap_remove_index.result c.swap_remove_index.ensures.entry c.swap_remove_index.ensures.entries c.settle.ensures.items c.thin.ensures.items).1,
   c.thin.ensures.few,
+  search rules,
 )
 
 pub returns-clause-others : goal.returns-clause-others
