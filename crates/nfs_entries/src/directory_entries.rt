@@ -1,10 +1,11 @@
 //! The entries of a directory: rows with an index of their names, and places by rising cookie that
 //! lead to them. A name stands in its row, unless it is long. An entry that goes leaves its place
-//! behind, dead; where half of them are, they go.
+//! behind, dead; where half of them are, they go, and unused memory is given back.
 ghost use Rattle.std.specs.Prelude.{ℕ, IsTrue, ◌↔◌, ◌≡◌, ◌+◌, ◌<◌, ◌≤◌, ◌++◌, ◌∷◌, [], false, OnOk, OnErr, IfSome, IfNone, ◌⊎◌, None};
 ghost use Rattle.std.specs.Prelude.{nat_le, nat_lt, option_map, slice_get, filter, length, vec_len, vec_capacity, ◌^◌};
 ghost use Rattle.std.specs.Iterator.{YieldsFirstBy, item_count};
-ghost use Rattle.nfs_entries.specs.Listing.{AreFew, entries_beyond, entry_named, number_named, without, listed, led, is_live, settled, IsRowOf, HasNo, Rises};
+ghost use Rattle.indexmap.specs.IndexMap.{spare as room};
+ghost use Rattle.nfs_entries.specs.Listing.{AreFew, max_rows, entries_beyond, entry_named, number_named, without, listed, led, is_live, settled, IsRowOf, HasNo, Rises};
 ghost use Rattle.nfs_entries.specs.Listing as spec;
 ghost use Rattle.nfs_entries.specs.Seen.{entry_seen, entries_left};
 
@@ -147,8 +148,8 @@ impl DirectoryEntries {
         self.places.push(EntryPosition::new(cookie, index)).unwrap();
     }
 
-    /// Takes the entry of a name out, if there is one. It takes no memory, and leaves room for an
-    /// entry where there was room.
+    /// Takes the entry of a name out, if there is one. It takes no memory, gives some back where much
+    /// more is kept than the entries need, and leaves room for an entry where there was room.
     pub fn remove(&mut self, name: &[u8])
         ensures others { self.new.entries ≡ without name.now self.old.entries }
         ensures next { self.new.next ≡ self.old.next }
@@ -159,7 +160,7 @@ impl DirectoryEntries {
         };
         self.rows.swap_remove_index(index);
         settle(&mut self.places, &self.rows, index as u32);
-        thin(&mut self.places, &self.rows);
+        thin(&mut self.places, &mut self.rows);
     }
 }
 
@@ -291,15 +292,35 @@ fn lead_by_halving(places: &mut Vec<EntryPosition>, cookie: u64, index: u32)
     }
 }
 
-// Takes the dead places out where they are more than half, in no memory.
-fn thin(places: &mut Vec<EntryPosition>, rows: &IndexMap<EntryName, EntryData>)
-    ensures items { places.new.items ≡ places.old.items ⊎ places.new.items ≡ filter (is_live rows.now.entries) places.old.items }
-    ensures few { AreFew rows.now.entries places.new.items }
-    ensures len { vec_len places.new ≤ vec_len places.old }
-    ensures capacity { vec_capacity places.new ≡ vec_capacity places.old }
+// Takes the dead places out where they are more than half, or no entry is left, in no memory. Then
+// memory is given back.
+fn thin(places: &mut Vec<EntryPosition>, rows: &mut IndexMap<EntryName, EntryData>)
+    requires { length rows.old.entries ≤ max_rows }
+    ensures items { places.new.items ≡ places.old.items ⊎ places.new.items ≡ filter (is_live rows.old.entries) places.old.items }
+    ensures entries { rows.new.entries ≡ rows.old.entries }
+    ensures few { AreFew rows.old.entries places.new.items }
+    ensures place { vec_len places.old < vec_capacity places.old → vec_len places.new < vec_capacity places.new }
+    ensures row { 0 < room rows.old → 0 < room rows.new }
 {
-    if places.len() / 2 > rows.len().saturating_add(FEW) {
+    if rows.is_empty() || places.len() / 2 > rows.len() + FEW {
         close_up(places, rows);
+        give_back(places, rows);
+    }
+}
+
+// Gives memory back where there is room for more than four times as many entries. What is kept has room
+// for as many rows again, and for the places that die until the dead ones are taken out the next time.
+fn give_back(places: &mut Vec<EntryPosition>, rows: &mut IndexMap<EntryName, EntryData>)
+    requires { length rows.old.entries ≤ max_rows }
+    ensures items { places.new.items ≡ places.old.items }
+    ensures entries { rows.new.entries ≡ rows.old.entries }
+    ensures place { vec_len places.old < vec_capacity places.old → vec_len places.new < vec_capacity places.new }
+    ensures row { 0 < room rows.old → 0 < room rows.new }
+{
+    let most = places.capacity().max(rows.capacity());
+    if most / 4 > places.len().saturating_add(FEW) {
+        places.shrink_to(3 * (places.len() + FEW));
+        rows.shrink_to(2 * (rows.len() + FEW));
     }
 }
 
