@@ -48,7 +48,7 @@ pub(crate) fn attributes_of(stored_file: &StoredFile, number: Number) -> Fattr
     let size = size_of(&stored_file.node);
     Fattr {
         file_type: type_of(&stored_file.node),
-        mode: stored_file.mode,
+        mode: stored_file.mode as u32,
         nlink: stored_file.nlink,
         uid: stored_file.uid,
         gid: stored_file.gid,

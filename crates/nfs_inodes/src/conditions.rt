@@ -87,14 +87,14 @@ impl Tree {
         if self.files.next() >= u64::MAX || size > self.limits().file_size {
             return false;
         }
-        if !self.has_room(stored_file.volume, size as u64) {
+        if !self.has_room(stored_file.volume as usize, size as u64) {
             return false;
         }
         takes_entry(stored_file, name)
     }
 
     // Whether the file `number` may have one link more, from the volume of this index.
-    fn may_gain_link(&self, number: Number, index: usize) -> bool
+    fn may_gain_link(&self, number: Number, index: u8) -> bool
         ensures { IsTrue result ↔ MayGainLink self.now number.0 index }
     {
         match self.files.get(number) {
@@ -128,7 +128,7 @@ fn takes_size(stored_volume: &StoredVolume, size: u64) -> bool
 }
 
 // Whether a kept file is no directory, of the volume of this index, and may have a link more.
-fn takes_link(stored_file: &StoredFile, index: usize, limits: Limits) -> bool
+fn takes_link(stored_file: &StoredFile, index: u8, limits: Limits) -> bool
     ensures { IsTrue result ↔ TakesLinkIn limits stored_file.now index }
 {
     !stored_file.is_directory() && stored_file.volume == index && has_link_left(stored_file, limits)

@@ -96,7 +96,7 @@ impl FileView<'_> {
 /// What a file that has left gives back, to the volume of this index.
 #[derive(Clone, Copy)]
 pub(crate) struct Freed {
-    pub(crate) volume: usize,
+    pub(crate) volume: u8,
     pub(crate) bytes: u64,
     pub(crate) files: u64,
 }
@@ -128,7 +128,7 @@ pub(crate) fn take_out(
 {
     leave(files, removal.dir, name, removal.file.directory, now);
     let freed = release(files, removal.number, removal.file.last, now);
-    discount(volumes, freed.volume, freed.bytes, freed.files);
+    discount(volumes, freed.volume as usize, freed.bytes, freed.files);
 }
 
 /// What a removal of its entry has to know of a file.

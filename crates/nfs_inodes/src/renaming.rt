@@ -9,7 +9,6 @@ ghost use Rattle.nfs_inodes.specs.Storage.{counted_tree_of};
 ghost use Rattle.nfs_inodes.specs.StoredFiles.{Revalues, IsThere};
 ghost use Rattle.nfs_inodes.specs.Renamings.{MovesTo, Carries, HasCarried, Renames};
 
-use crate::copied::copied;
 use crate::limits::Limits;
 use crate::removal::{Removal, is_directory, leave, standing_of, take_out};
 use crate::stored_file::{StoredFile, set_parent};
@@ -17,6 +16,7 @@ use crate::stored_files::{enter, reserve};
 use crate::stored_volume::StoredVolume;
 use crate::tree::Tree;
 use nfs_attrs::moment::Moment;
+use nfs_entries::entry_name::EntryName;
 use nfs_handles::files::Files;
 use nfs_handles::number::Number;
 use std::alloc::AllocError;
@@ -68,7 +68,7 @@ impl Tree {
         if is_number(route.replaced, route.number) {
             return Ok(());
         }
-        let new_name = copied(self.alloc, new_name)?;
+        let new_name = EntryName::copied(self.alloc, new_name)?;
         reserve(&mut self.files, route.to)?;
         move_entry(
             &mut self.files,
@@ -114,13 +114,13 @@ fn move_entry(
     limits: Limits,
     route: Route,
     name: &[u8],
-    new_name: Vec<u8>,
+    new_name: EntryName,
     now: Moment,
 )
-    requires { Renames limits files.old volumes.old.items route name.now new_name.items }
+    requires { Renames limits files.old volumes.old.items route name.now new_name }
     ensures agree { Agrees (counted_tree_of limits files.new volumes.new.items) }
     ensures done { tree_in (counted_tree_of limits files.new volumes.new.items)
-        ≡ after_rename (tree_in (counted_tree_of limits files.old volumes.old.items)) route.from.0 name.now route.to.0 new_name.items now }
+        ≡ after_rename (tree_in (counted_tree_of limits files.old volumes.old.items)) route.from.0 name.now route.to.0 new_name now }
 {
     if let Some(old) = route.replaced {
         let removal = Removal {
@@ -136,10 +136,10 @@ fn move_entry(
 }
 
 // The entry of a name goes to another that is free, for which there is room.
-fn carry(files: &mut Files<StoredFile>, route: Route, name: &[u8], new_name: Vec<u8>, now: Moment)
-    requires { (limits : Limits) × (stored_volumes : List StoredVolume) × Carries limits files.old stored_volumes route name.now new_name.items }
-    ensures { (limits : Limits) (stored_volumes : List StoredVolume) → Carries limits files.old stored_volumes route name.now new_name.items
-        → HasCarried limits files.old files.new stored_volumes route name.now new_name.items now }
+fn carry(files: &mut Files<StoredFile>, route: Route, name: &[u8], new_name: EntryName, now: Moment)
+    requires { (limits : Limits) × (stored_volumes : List StoredVolume) × Carries limits files.old stored_volumes route name.now new_name }
+    ensures { (limits : Limits) (stored_volumes : List StoredVolume) → Carries limits files.old stored_volumes route name.now new_name
+        → HasCarried limits files.old files.new stored_volumes route name.now new_name now }
 {
     let subdirectory = is_directory(files, route.number);
     leave(files, route.from, name, subdirectory, now);

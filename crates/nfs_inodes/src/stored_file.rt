@@ -16,6 +16,7 @@ use nfs_attrs::moment::Moment;
 use nfs_content::content::Content;
 use nfs_content::pages::Pages;
 use nfs_entries::directory_entries::DirectoryEntries;
+use nfs_entries::entry_name::EntryName;
 use nfs_handles::number::Number;
 use std::alloc::{AllocError, Global};
 
@@ -44,12 +45,12 @@ impl Node {
     }
 }
 
-/// A file as it is kept, with the number of its links.
+/// A file as it is kept, with the index of its volume and the number of its links.
 #[derive(Drop)]
 pub(crate) struct StoredFile {
-    pub(crate) volume: usize,
+    pub(crate) volume: u8,
     pub(crate) node: Node,
-    pub(crate) mode: u32,
+    pub(crate) mode: u16,
     pub(crate) uid: u32,
     pub(crate) gid: u32,
     pub(crate) atime: Moment,
@@ -63,7 +64,7 @@ impl StoredFile {
     /// A new file, with the links that it has once it has an entry.
     #[inline(always)]
     pub(crate) fn new(
-        volume: usize,
+        volume: u8,
         node: Node,
         given: &NewFile,
         verifier: Option<[u8; 8]>,
@@ -79,7 +80,7 @@ impl StoredFile {
         StoredFile {
             volume,
             node,
-            mode: given.mode % 4096,
+            mode: low_bits(given.mode),
             uid: given.uid,
             gid: given.gid,
             atime: given.atime,
@@ -132,17 +133,17 @@ pub(crate) fn reserve_entry(stored_file: &mut StoredFile) -> Result<(), AllocErr
 #[inline(always)]
 pub(crate) fn add_entry(
     stored_file: &mut StoredFile,
-    name: Vec<u8>,
+    name: EntryName,
     number: Number,
     subdirectory: bool,
     now: Moment,
 )
     requires dir { IsTrue (is_directory (file_of 0 stored_file.old).kind) }
     requires room { HasRoom stored_file.old }
-    requires fresh { entry_named name.items (entries_in (file_of 0 stored_file.old).kind) ≡ None }
+    requires fresh { entry_named name (entries_in (file_of 0 stored_file.old).kind) ≡ None }
     requires next { next_cookie_in (file_of 0 stored_file.old).kind + 1 < 2 ^ 64 }
     requires links { stored_file.old.nlink ≤ max_links }
-    ensures file { file_of 0 stored_file.new ≡ entered (file_of 0 stored_file.old) name.items number.0 now }
+    ensures file { file_of 0 stored_file.new ≡ entered (file_of 0 stored_file.old) name number.0 now }
     ensures nlink { stored_file.new.nlink ≡ stored_file.old.nlink + one_when subdirectory }
 {
     stored_file.mtime = now;
@@ -254,11 +255,19 @@ pub(crate) fn set_attributes(stored_file: &mut StoredFile, given: &GivenAttribut
 }
 
 // The low 12 bits of a mode that is given, or else the mode that was.
-fn mode_of(given: Option<u32>, was: u32) -> u32
+fn mode_of(given: Option<u32>, was: u16) -> u16
     ensures { result ≡ on_some given was (λ mode. mode % 4096) }
 {
     match given {
-        Some(mode) => mode % 4096,
+        Some(mode) => low_bits(mode),
         None => was,
     }
+}
+
+// The low 12 bits of a mode.
+#[inline(always)]
+fn low_bits(mode: u32) -> u16
+    ensures { result ≡ mode % 4096 }
+{
+    (mode % 4096) as u16
 }

@@ -15,6 +15,7 @@ use crate::stored_file::{
     StoredFile, add_entry, reserve_entry, resize_bytes, set_attributes, write_bytes,
 };
 use nfs_attrs::moment::Moment;
+use nfs_entries::entry_name::EntryName;
 use nfs_handles::files::Files;
 use nfs_handles::number::Number;
 use std::alloc::AllocError;
@@ -25,15 +26,15 @@ use std::alloc::AllocError;
 pub(crate) fn add(
     files: &mut Files<StoredFile>,
     dir: Number,
-    name: Vec<u8>,
+    name: EntryName,
     stored_file: StoredFile,
     now: Moment,
 ) -> Result<Number, AllocError>
     requires dir { TakesEntry files.old dir.0 }
     requires room { (parent : StoredFile) → value_at files.old dir.0 ≡ Some parent → HasRoom parent }
-    requires fresh { HasNoEntry files.old dir.0 name.items }
+    requires fresh { HasNoEntry files.old dir.0 name }
     requires number { files.old.next < 2 ^ 64 - 1 }
-    ensures ok { OnOk result (AddsFile files.old dir.0 name.items stored_file now files.new) }
+    ensures ok { OnOk result (AddsFile files.old dir.0 name stored_file now files.new) }
     ensures number { IfOk result (λ n. n.0 ≡ files.old.next) }
     ensures err { OnErr result (SameFiles files.old files.new) }
 {
@@ -49,13 +50,13 @@ pub(crate) fn link(
     files: &mut Files<StoredFile>,
     number: Number,
     dir: Number,
-    name: Vec<u8>,
+    name: EntryName,
     now: Moment,
 ) -> Result<(), AllocError>
     requires dir { TakesEntry files.old dir.0 }
-    requires fresh { HasNoEntry files.old dir.0 name.items }
+    requires fresh { HasNoEntry files.old dir.0 name }
     requires file { TakesLink files.old number.0 dir.0 }
-    ensures ok { OnOk result (LinksFile files.old number.0 dir.0 name.items now files.new) }
+    ensures ok { OnOk result (LinksFile files.old number.0 dir.0 name now files.new) }
     ensures err { OnErr result (SameFiles files.old files.new) }
 {
     reserve(files, dir)?;
@@ -67,7 +68,7 @@ pub(crate) fn link(
 /// By how many bytes a file has grown, and the index of its volume.
 #[derive(Clone, Copy)]
 pub(crate) struct Growth {
-    pub(crate) volume: usize,
+    pub(crate) volume: u8,
     pub(crate) bytes: u64,
 }
 
@@ -154,7 +155,7 @@ fn gain_link(files: &mut Files<StoredFile>, number: Number, dir: Number, now: Mo
 /// Room in a directory for one entry more, and the index of its volume. Refused without memory, and
 /// then clients see no change.
 #[inline(always)]
-pub(crate) fn reserve(files: &mut Files<StoredFile>, dir: Number) -> Result<usize, AllocError>
+pub(crate) fn reserve(files: &mut Files<StoredFile>, dir: Number) -> Result<u8, AllocError>
     requires { TakesEntry files.old dir.0 }
     ensures same { Revalues files.old dir.0 SameFile files.new }
     ensures index { IfOk result (λ index. option_map (λ parent. parent.volume) (value_at files.old dir.0) ≡ Some index) }
@@ -174,15 +175,15 @@ pub(crate) fn reserve(files: &mut Files<StoredFile>, dir: Number) -> Result<usiz
 pub(crate) fn enter(
     files: &mut Files<StoredFile>,
     dir: Number,
-    name: Vec<u8>,
+    name: EntryName,
     number: Number,
     subdirectory: bool,
     now: Moment,
 )
     requires dir { TakesEntry files.old dir.0 }
     requires room { (stored_file : StoredFile) → value_at files.old dir.0 ≡ Some stored_file → HasRoom stored_file }
-    requires fresh { HasNoEntry files.old dir.0 name.items }
-    ensures { Revalues files.old dir.0 (Enters name.items number.0 (one_when subdirectory) now) files.new }
+    requires fresh { HasNoEntry files.old dir.0 name }
+    ensures { Revalues files.old dir.0 (Enters name number.0 (one_when subdirectory) now) files.new }
 {
     match files.get_mut(dir) {
         Some(parent) => add_entry(parent, name, number, subdirectory, now),

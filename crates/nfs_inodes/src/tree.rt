@@ -138,7 +138,7 @@ impl Tree {
         ensures number { IfOk result (λ n. n.0 ≡ self.old.next) }
         ensures err { OnErr result (self.new ≡ self.old) }
     {
-        let name = copied(self.alloc, name)?;
+        let name = EntryName::copied(self.alloc, name)?;
         let NewContent { pages, verifier } = content;
         let made = NewNode {
             node: Node::Regular(pages),
@@ -161,7 +161,7 @@ impl Tree {
         ensures number { IfOk result (λ n. n.0 ≡ self.old.next) }
         ensures err { OnErr result (self.new ≡ self.old) }
     {
-        let name = copied(self.alloc, name)?;
+        let name = EntryName::copied(self.alloc, name)?;
         let node = Node::directory(self.alloc, dir)?;
         let made = NewNode {
             node,
@@ -186,7 +186,7 @@ impl Tree {
         ensures err { OnErr result (self.new ≡ self.old) }
     {
         let path = copied(self.alloc, path)?;
-        let name = copied(self.alloc, name)?;
+        let name = EntryName::copied(self.alloc, name)?;
         let made = NewNode {
             node: Node::Link(path),
             verifier: None,
@@ -207,7 +207,7 @@ impl Tree {
         ensures ok { OnOk result (self.new ≡ after_link self.old number.0 dir.0 name.now now) }
         ensures err { OnErr result (self.new ≡ self.old) }
     {
-        let name = copied(self.alloc, name)?;
+        let name = EntryName::copied(self.alloc, name)?;
         link(&mut self.files, number, dir, name, now)?;
         Ok(())
     }
@@ -231,7 +231,7 @@ impl Tree {
             return Ok(());
         }
         let growth = write(&mut self.files, number, offset, bytes, now)?;
-        count(&mut self.volumes, growth.volume, growth.bytes, 0);
+        count(&mut self.volumes, growth.volume as usize, growth.bytes, 0);
         Ok(())
     }
 
@@ -277,7 +277,7 @@ impl Tree {
         self.volumes.reserve(1)?;
         let parent = Number::new(self.files.next());
         let node = Node::directory(self.alloc, parent)?;
-        let stored_file = StoredFile::new(self.volumes.len(), node, given, None, now);
+        let stored_file = StoredFile::new(self.volumes.len() as u8, node, given, None, now);
         let root = self.files.add(stored_file)?;
         append(
             &mut self.volumes,
@@ -298,7 +298,7 @@ impl Tree {
         ensures { result ≡ volume_index self.now number.0 }
     {
         match self.files.get(number) {
-            Some(stored_file) => stored_file.volume,
+            Some(stored_file) => stored_file.volume as usize,
             None => 0,
         }
     }
@@ -308,13 +308,13 @@ impl Tree {
     fn make(
         &mut self,
         dir: Number,
-        name: Vec<u8>,
+        name: EntryName,
         made: NewNode,
         given: &NewFile,
         now: Moment,
     ) -> Result<Number, AllocError>
-        requires { MayAddKind self.old dir.0 name.items (kind_of made.node) }
-        ensures ok { OnOk result (Makes self.old (λ tag. with_named_file self.old dir.0 name.items
+        requires { MayAddKind self.old dir.0 name (kind_of made.node) }
+        ensures ok { OnOk result (Makes self.old (λ tag. with_named_file self.old dir.0 name
             (new_file (volume_index self.old dir.0) (kind_of made.node) given.now made.verifier tag now) now) self.new) }
         ensures number { IfOk result (λ n. n.0 ≡ self.old.next) }
         ensures err { OnErr result (self.new ≡ self.old) }
@@ -324,7 +324,7 @@ impl Tree {
         let stored_file = StoredFile::new(index, node, given, verifier, now);
         let size = stored_file.size();
         let number = add(&mut self.files, dir, name, stored_file, now)?;
-        count(&mut self.volumes, index, size, 1);
+        count(&mut self.volumes, index as usize, size, 1);
         Ok(number)
     }
 }

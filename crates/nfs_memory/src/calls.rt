@@ -31,7 +31,8 @@ pub(crate) const DIRECTORY: &[u8] =
 pub(crate) const FILE: &[u8] =
     b"\0\0\0\x18NFS3\x01\x02\x03\x04\x05\x06\x07\x08\0\0\0\x02\0\0\0\0\0\0\0\x03";
 
-const NEW_NAME: &[u8] = b"\0\0\0\x01y\0\0\0";
+// A name that is too long for its row, so that it takes memory of its own.
+const NEW_NAME: &[u8] = b"\0\0\0\x24a name that takes more than 30 bytes";
 
 pub(crate) const NO_SETTINGS: &[u8] = b"\0\0\0\0\0\0\0\0\0\0\0\0\0\0\0\0\0\0\0\0\0\0\0\0";
 

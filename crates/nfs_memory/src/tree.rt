@@ -27,6 +27,9 @@ const GIVEN: NewFile = NewFile {
     mtime: NOW,
 };
 
+// A name that is too long for its row, so that it takes memory of its own.
+const NEW_NAME: &[u8] = b"a name that takes more than 30 bytes";
+
 // What the tests see of a tree: directory 2 with the cookie of its next entry, file 3 and its
 // length, the first volume's totals, the volumes and the next number.
 #[derive(Clone, Copy, Debug, PartialEq)]
@@ -56,20 +59,20 @@ pub(crate) fn snapshot_of(tree: &Tree) -> Snapshot {
 fn operate(alloc: Global, tree: &mut Tree, operation: u32) -> Result<(), AllocError> {
     let dir = Number::new(2);
     match operation {
-        0 if tree.may_make(dir, b"y", 100) => {
+        0 if tree.may_make(dir, NEW_NAME, 100) => {
             let content = NewContent {
                 pages: Pages::zeros(alloc, 100),
                 verifier: None,
             };
-            tree.make_file(dir, b"y", content, &GIVEN, NOW)?;
+            tree.make_file(dir, NEW_NAME, content, &GIVEN, NOW)?;
         }
-        1 if tree.may_mkdir(dir, b"y") => {
-            tree.mkdir(dir, b"y", &GIVEN, NOW)?;
+        1 if tree.may_mkdir(dir, NEW_NAME) => {
+            tree.mkdir(dir, NEW_NAME, &GIVEN, NOW)?;
         }
-        2 if tree.may_make_link(dir, b"y", b"to") => {
-            tree.make_link(dir, b"y", b"to", &GIVEN, NOW)?;
+        2 if tree.may_make_link(dir, NEW_NAME, b"to") => {
+            tree.make_link(dir, NEW_NAME, b"to", &GIVEN, NOW)?;
         }
-        3 if tree.may_link(Number::new(3), dir, b"y") => tree.link(Number::new(3), dir, b"y", NOW)?,
+        3 if tree.may_link(Number::new(3), dir, NEW_NAME) => tree.link(Number::new(3), dir, NEW_NAME, NOW)?,
         4 if may_write(tree, Number::new(3), 100, 3) => tree.write_at(
             Number::new(3),
             100,
@@ -80,7 +83,7 @@ fn operate(alloc: Global, tree: &mut Tree, operation: u32) -> Result<(), AllocEr
             tree.add_volume(b"/c", 1, 1, &GIVEN, NOW)?;
         }
         6 if may_resize(tree, Number::new(3), 1_000) => tree.resize(Number::new(3), 1_000, NOW)?,
-        7 if may_rename(tree, dir, b"x", dir, b"y") => tree.rename(dir, b"x", dir, b"y", NOW)?,
+        7 if may_rename(tree, dir, b"x", dir, NEW_NAME) => tree.rename(dir, b"x", dir, NEW_NAME, NOW)?,
         _ => (),
     }
     Ok(())

@@ -16,7 +16,7 @@ pub enter-requires-clause-room : goal.enter-requires-clause-room
 enter-requires-clause-room c = room_still c.args.files.now c.add.new.self c.args.dir.0 c.args.stored_file c.requires.dir c.in_ok-number.ensures.adds c.requires.room
 
 pub enter-requires-clause-fresh : goal.enter-requires-clause-fresh
-enter-requires-clause-fresh c = fresh_still c.args.files.now c.add.new.self c.args.dir.0 c.args.stored_file c.requires.dir c.in_ok-number.ensures.adds c.args.name.items c.requires.fresh
+enter-requires-clause-fresh c = fresh_still c.args.files.now c.add.new.self c.args.dir.0 c.args.stored_file c.requires.dir c.in_ok-number.ensures.adds c.args.name c.requires.fresh
 
 pub returns-clause-ok : goal.returns-clause-ok
-returns-clause-ok c = added c.args.files.now c.add.new.self c.args.dir.0 c.args.stored_file c.requires.dir c.in_ok-number.ensures.adds c.enter.new.files c.args.name.items c.in_ok-number.number.0 (one_when c.is_directory-subdirectory.result) c.args.now c.enter.ensures c.in_ok-number.ensures.number (ap one_when c.is_directory-subdirectory.ensures)
+returns-clause-ok c = added c.args.files.now c.add.new.self c.args.dir.0 c.args.stored_file c.requires.dir c.in_ok-number.ensures.adds c.enter.new.files c.args.name c.in_ok-number.number.0 (one_when c.is_directory-subdirectory.result) c.args.now c.enter.ensures c.in_ok-number.ensures.number (ap one_when c.is_directory-subdirectory.ensures)

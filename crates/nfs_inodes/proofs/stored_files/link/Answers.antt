@@ -14,7 +14,7 @@ pub enter-requires-clause-room : goal.enter-requires-clause-room
 enter-requires-clause-room c = room_for_link c.args.files.now c.reserve.new.files c.gain_link.new.files c.args.number.0 c.args.dir.0 c.args.now c.requires.dir c.requires.file c.reserve.ensures.same c.gain_link.ensures c.in_ok-reserve.ensures.ok
 
 pub enter-requires-clause-fresh : goal.enter-requires-clause-fresh
-enter-requires-clause-fresh c = fresh_for_link c.args.files.now c.reserve.new.files c.gain_link.new.files c.args.number.0 c.args.dir.0 c.args.now c.requires.dir c.requires.file c.reserve.ensures.same c.gain_link.ensures c.args.name.items c.requires.fresh
+enter-requires-clause-fresh c = fresh_for_link c.args.files.now c.reserve.new.files c.gain_link.new.files c.args.number.0 c.args.dir.0 c.args.now c.requires.dir c.requires.file c.reserve.ensures.same c.gain_link.ensures c.args.name c.requires.fresh
 
 pub returns-clause-ok : goal.returns-clause-ok
-returns-clause-ok c = linked_files c.args.files.now c.reserve.new.files c.gain_link.new.files c.args.number.0 c.args.dir.0 c.args.now c.requires.dir c.requires.file c.reserve.ensures.same c.gain_link.ensures c.enter.new.files c.args.name.items c.enter.ensures
+returns-clause-ok c = linked_files c.args.files.now c.reserve.new.files c.gain_link.new.files c.args.number.0 c.args.dir.0 c.args.now c.requires.dir c.requires.file c.reserve.ensures.same c.gain_link.ensures c.enter.new.files c.args.name c.enter.ensures
