@@ -22,6 +22,7 @@ use crate::stored_file::{Node, StoredFile};
 use crate::stored_files::{add, link, reserve, resize, set, write};
 use crate::stored_volume::StoredVolume;
 use nfs_attrs::moment::Moment;
+use nfs_entries::entry_name::EntryName;
 use nfs_handles::files::Files;
 use nfs_handles::number::Number;
 use std::alloc::{AllocError, Global};

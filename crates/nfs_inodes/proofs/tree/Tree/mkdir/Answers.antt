@@ -6,5 +6,5 @@ use Rattle.nfs_inodes.proofs.tree.Tree.mkdir.Goals as goal
 
 pub make-requires : goal.make-requires
 make-requires c = subst (λ (k : Kind). MayAddKind c.args.self.now c.args.dir.0 c.in_ok-name.name k) (sym c.in_ok-node.ensures)
-    (subst (λ (name : List ℕ). MayAddKind c.args.self.now c.args.dir.0 name (Directory c.args.dir.0 3 [])) (sym c.in_ok-name.ensures)
+    (subst (λ (name : List ℕ). MayAddKind c.args.self.now c.args.dir.0 name (Directory c.args.dir.0 3 [])) (sym c.in_ok-name.ensures.bytes)
     (record { may = c.requires.make; fresh = fresh_directory c.args.dir.0; links = λ y. c.requires.links }))
