@@ -166,14 +166,22 @@ done
 ok $? "a growth refused while clients are served costs at most one of them its call or connection"
 note "$harmed times a client was refused, wrong:${wrong:- none}"
 
-# A call is answered SYSTEM_ERR by what the allocator said, so no crate that the service stands on makes an AllocError itself.
-# nfs_load, which only loads descriptions, is not looked at, nor is nfs_words, whose texts say at their end that a growth was refused.
+# A call is answered SYSTEM_ERR by what the allocator said, so no crate that the service stands on makes an AllocError itself, but
+# where a directory has 2^32 - 1 entries, or the server as many files. nfs_load, which only loads descriptions, is not looked at,
+# nor is nfs_words, whose texts say at their end that a growth was refused.
 crates=$(awk -F': *' '/^#/ { next } { uses[$1] = $2 }
     function add(it, n, names, i) { if ((it in seen) || !(it in uses) || it == "nfs_load" || it == "nfs_words") return; seen[it]; print it; n = split(uses[it], names, " "); for (i = 1; i <= n; i++) add(names[i]) }
     END { add("nfs_loop") }' crates.txt)
 for it in $crates; do grep -n 'AllocError\|AllocFailed' "crates/$it"/src/*.rt /dev/null; done |
-    grep -v ':use std::alloc\|Result<.*, AllocError>\|    Memory(.*AllocError),$\|_refused: AllocError)$' >"$work/difference"
-[ "$(echo "$crates" | grep -c .)" -gt 10 ] && [ ! -s "$work/difference" ]
-ok $? "no crate that the service stands on makes an allocator's error itself"
+    grep -v ':use std::alloc\|Result<.*, AllocError>\|    Memory(.*AllocError),$\|_refused: AllocError)$\|:[0-9]*: *//' |
+    sed 's/:[0-9]*: */: /' | sort >"$work/made"
+cat >"$work/limits" <<'END'
+crates/nfs_entries/src/directory_entries.rt: return Err(AllocError);
+crates/nfs_handles/src/number_slots.rt: return Err(AllocError);
+END
+[ "$(echo "$crates" | grep -c .)" -gt 10 ]
+ok $? "the crates that the service stands on are found"
+same "$work/limits" "$work/made"
+ok $? "none of them makes an allocator's error itself, but at two limits of 2^32 - 1"
 
 plan
