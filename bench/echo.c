@@ -12,13 +12,10 @@
  * Replies that are written so gather until MADE bytes are pending, and one client alone can have them. */
 #define _GNU_SOURCE
 #include <errno.h>
-#include <fcntl.h>
-#include <netinet/tcp.h>
 #include <stdint.h>
 #include <stdio.h>
 #include <stdlib.h>
 #include <string.h>
-#include <sys/epoll.h>
 #include <sys/socket.h>
 #include <unistd.h>
 #include "entries.h"
@@ -165,6 +162,12 @@ static void serve(int peer, Client *c, int made) {
     }
 }
 
+static int is_made;
+
+static void begin(int peer) { all[peer] = (Client){0}; }
+
+static void give_turn(int peer) { serve(peer, all + peer, is_made); }
+
 int main(int count, char **w) {
     for (int i = 0; count > 2 && i < 2; i++) {
         int at = count > 4 ? 1 + 2 * i : 1;
@@ -172,30 +175,11 @@ int main(int count, char **w) {
     }
     if (count == 4) work = w[3];
     if (strncmp(work, "look", 4) == 0) named = (uint32_t)strtoul(work + 4, NULL, 10);
-    int made = works("read") || works("list") || works("plus") || named > 0;
+    is_made = works("read") || works("list") || works("plus") || named > 0;
     for (int i = 0; works("keep") && i < KEPT; i++)
         if (!(kept[i] = calloc(1, size[0]))) return 1;
     make_entries(named > 0 ? named : NAMES);
     if (named > 0) make_index();
     memset(file, 1, sizeof file);
-    int listener = listening(), poll = epoll_create1(0);
-    struct epoll_event e = {.events = EPOLLIN, .data.u32 = 0};
-    epoll_ctl(poll, EPOLL_CTL_ADD, listener, &e);
-    for (;;) {
-        struct epoll_event events[256];
-        int n = epoll_wait(poll, events, 256, -1);
-        for (int i = 0; i < n; i++) {
-            int peer = (int)events[i].data.u32, yes = 1;
-            if (peer != 0) {
-                serve(peer, all + peer, made);
-                continue;
-            }
-            while ((peer = accept4(listener, 0, 0, SOCK_NONBLOCK)) >= 0) {
-                setsockopt(peer, IPPROTO_TCP, TCP_NODELAY, &yes, sizeof yes);
-                all[peer] = (Client){0};
-                e.events = EPOLLIN | EPOLLOUT | EPOLLET, e.data.u32 = (uint32_t)peer;
-                epoll_ctl(poll, EPOLL_CTL_ADD, peer, &e);
-            }
-        }
-    }
+    serve_all(begin, give_turn);
 }

@@ -79,6 +79,7 @@ struct server {
     size_t count;
     const struct export *exports;
     size_t patterns;
+    int tagged; /* whether the tag in a handle is the slot of its file, and not 0 */
 };
 
 static const struct file *find(const struct server *s, uint64_t number) {
@@ -104,7 +105,7 @@ static uint32_t named(const struct server *s, struct bytes handle, const struct 
     if (number == 0 || number >= s->next)
         return 10001;
     *file = find(s, number);
-    return *file && (uint32_t)hyper(handle.at + 8) == 0 ? 0 : 70;
+    return *file && (uint32_t)hyper(handle.at + 8) == (s->tagged ? (uint32_t)(*file - s->files) : 0) ? 0 : 70;
 }
 
 static const struct export *grant(const struct server *s, uint32_t volume, uint32_t address) {
