@@ -1,6 +1,6 @@
 /* Loads a server over TCP: load PORT WORK CLIENTS DEPTH CALLS [echo|alike], where WORK is null, getattr, access,
  * lookup, read4, read64, read128, write4, write64, write128, make, make-dir, rename, list, pages, missing, denied, or one of
- * look1000, look10000, look100000, list1000 and plus1000. Each client has
+ * look1000, look10000, look100000, list1000, plus1000 and remove100000. Each client has
  * up to DEPTH calls under way. Each reply is looked at: its length, and that its number is that of the
  * client's oldest call. It prints the microseconds a call, and the 99th of a hundred times of a call. With
  * echo, the sizes alone are asked for. With alike, all replies must be equal but for their numbers. With
@@ -11,7 +11,7 @@
  * a volume that isn't exported here, which stands after bench/tree's own. With pages, file 6 is a directory
  * with more entries than a reply holds, whose names have 1 to 4 bytes. READs and WRITEs begin at the byte
  * that NFS3D_OFFSET says, 0 by default. The last works and rename are on the directories of bench/names: LOOKUPs of their names in a wandering
- * order, the first page of a READDIR or a READDIRPLUS, and a RENAME there and back. */
+ * order, the first page of a READDIR or a READDIRPLUS, a REMOVE of each name in that order, and a RENAME there and back. */
 #include <arpa/inet.h>
 #include <errno.h>
 #include <fcntl.h>
@@ -107,6 +107,9 @@ static void make_calls(const char *work) {
     } else if (strncmp(work, "look", 4) == 0 && (names = (unsigned)strtoul(work + 4, NULL, 10)) > 0) {
         uint32_t name[] = {7, 0x6e303030, 0x30303000};
         call_size = words(call, begin(call, 3, file_of(names)), name, 3), reply_size = 28 + 4 + 28 + 88 + 88;
+    } else if (strncmp(work, "remove", 6) == 0 && (names = (unsigned)strtoul(work + 6, NULL, 10)) > 0) {
+        uint32_t name[] = {7, 0x6e303030, 0x30303000};
+        call_size = words(call, begin(call, 12, file_of(names)), name, 3), reply_size = 28 + 4 + 28 + 88;
     } else if (strcmp(work, "list1000") == 0) {
         uint32_t page[] = {0, 0, 0, 0, 131072};
         call_size = words(call, begin(call, 16, file_of(1000)), page, 5), reply_size = 28 + 4 + 88 + 8 + 2 * 28 + 1000 * 32 + 8;

@@ -35,4 +35,13 @@ before=$(most)
 ok $? "a million files that are made and removed cost the server less than 1 MiB"
 note "$before KiB, then $after KiB"
 
+# Files that are removed give their memory back, in an order that wanders through the directory.
+bench/names >"$work/names"
+serving "$work/names"
+has() { sed -n 's/^VmRSS:[^0-9]*\([0-9]*\).*/\1/p' "/proc/$(server_process)/status"; }
+before=$(has)
+"$work/load" "$port" remove100000 1 16 100000 >"$work/out" 2>&1 && after=$(has) && [ $((before - after)) -gt 15360 ]
+ok $? "100,000 files that are removed give more than 15 MiB back"
+note "$before KiB, then $after KiB"
+
 plan
