@@ -72,7 +72,12 @@ fn operate(alloc: Global, tree: &mut Tree, operation: u32) -> Result<(), AllocEr
         2 if tree.may_make_link(dir, NEW_NAME, b"to") => {
             tree.make_link(dir, NEW_NAME, b"to", &GIVEN, NOW)?;
         }
-        3 if tree.may_link(Number::new(3), dir, NEW_NAME) => tree.link(Number::new(3), dir, NEW_NAME, NOW)?,
+        3 if tree.may_link(Number::new(3), dir, NEW_NAME) => tree.link(
+            Number::new(3),
+            dir,
+            NEW_NAME,
+            NOW,
+        )?,
         4 if may_write(tree, Number::new(3), 100, 3) => tree.write_at(
             Number::new(3),
             100,
@@ -83,7 +88,9 @@ fn operate(alloc: Global, tree: &mut Tree, operation: u32) -> Result<(), AllocEr
             tree.add_volume(b"/c", 1, 1, &GIVEN, NOW)?;
         }
         6 if may_resize(tree, Number::new(3), 1_000) => tree.resize(Number::new(3), 1_000, NOW)?,
-        7 if may_rename(tree, dir, b"x", dir, NEW_NAME) => tree.rename(dir, b"x", dir, NEW_NAME, NOW)?,
+        7 if may_rename(tree, dir, b"x", dir, NEW_NAME) => tree.rename(
+            dir, b"x", dir, NEW_NAME, NOW,
+        )?,
         _ => (),
     }
     Ok(())
