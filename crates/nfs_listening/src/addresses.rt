@@ -1,4 +1,6 @@
 //! The addresses at which a service listens, as the words ask for them.
+ghost use Rattle.std.specs.Prelude.{◌≡◌, ◌≢◌, ◌⊎◌, [], Some, length, slice_get};
+ghost use Rattle.nfs_listening.specs.Opening.{AreLoopbacks, IsFirstOpen};
 
 use nfs_command_line::serve::Serve;
 use nfs_lines::rule_names::first_unknown;
@@ -43,7 +45,10 @@ pub fn has_metrics_address<R: Eprint>(rt: &R, words: Serve<'_, '_>) -> bool {
 }
 
 /// The first address that other machines can reach; where there is none, the first; of no addresses, 127.0.0.1.
-pub fn most_open(addresses: &[IpAddr]) -> IpAddr {
+pub fn most_open(addresses: &[IpAddr]) -> IpAddr
+    ensures reachable { IsFirstOpen addresses.now result ⊎ AreLoopbacks addresses.now (length addresses.now) }
+    ensures first { AreLoopbacks addresses.now (length addresses.now) → addresses.now ≢ [] → slice_get addresses.now 0 ≡ Some result }
+{
     for address in addresses {
         if !address.is_loopback() {
             return *address;

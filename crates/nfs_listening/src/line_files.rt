@@ -1,4 +1,7 @@
 //! Where the lines of a service go.
+ghost use Rattle.std.specs.Prelude.{◌≡◌, ◌≢◌, Some, codes, option_map};
+ghost use Rattle.nfs_command_line.specs.Given.{IsFlag, text_given};
+ghost use Rattle.nfs_lines.specs.declared.wording.WhenFailed.TheVariants.{Count, Refuse};
 
 use nfs_command_line::serve::{AuditFailed, Serve};
 use nfs_lines::wording::{WhenFailed, Wording};
@@ -61,7 +64,13 @@ fn cannot_write<T>(alloc: Global, name: &str, error: io::Error) -> Result<T, Fau
 }
 
 /// How the lines are worded, and which are written.
-pub fn wording_of<'a>(words: Serve<'a, '_>) -> Wording<'a> {
+pub fn wording_of<'a>(words: Serve<'a, '_>) -> Wording<'a>
+    ensures times { IsFlag words.entry.words.now (codes "times") result.has_times }
+    ensures names { IsFlag words.entry.words.now (codes "names") result.has_names }
+    ensures skipped { option_map (λ text. text.now) result.skipped ≡ text_given words.entry.words.now (codes "audit-skip") }
+    ensures count { text_given words.entry.words.now (codes "audit-failed") ≡ Some (codes "count") → result.when_failed ≡ Count }
+    ensures refuse { text_given words.entry.words.now (codes "audit-failed") ≢ Some (codes "count") → result.when_failed ≡ Refuse }
+{
     Wording {
         has_times: words.has_times(),
         has_names: words.is_named(),

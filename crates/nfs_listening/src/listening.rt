@@ -1,4 +1,6 @@
 //! The sockets at which a service listens.
+ghost use Rattle.std.specs.Prelude.{◌≡◌};
+ghost use Rattle.nfs_listening.specs.Opening.{IsReportedAt};
 
 use crate::addresses::most_open;
 use crate::registration::Registration;
@@ -61,7 +63,9 @@ impl Listening {
     }
 
     /// The address that faults of the network name.
-    pub fn address(&self) -> SocketAddr {
+    pub fn address(&self) -> SocketAddr
+        ensures { result ≡ self.now.address }
+    {
         self.address
     }
 
@@ -205,8 +209,10 @@ fn say<R: Clock + Log, A: LineOut, C: LineOut>(
     Ok(())
 }
 
-/// A fault of a service at this address.
-pub fn fault_of(address: SocketAddr, fault: ServiceFault) -> Fault {
+/// A fault of a service at this address, as it is reported.
+pub fn fault_of(address: SocketAddr, fault: ServiceFault) -> Fault
+    ensures { IsReportedAt address fault result }
+{
     match fault {
         ServiceFault::Network(error) => Fault::Network { address, error },
         ServiceFault::Write => Fault::Write,
