@@ -116,7 +116,8 @@ impl DirectoryEntries {
         }
     }
 
-    /// Room for one entry more. `AllocError` where there is no room, and either no memory or 2^32 - 1 entries.
+    /// Room for one entry more. `AllocError` where there is no room, and either no memory for it or
+    /// 2^32 - 1 entries.
     pub fn reserve(&mut self) -> Result<(), AllocError>
         ensures ok { OnOk result (0 < self.new.spare) }
         ensures full { OnErr result (self.old.spare ≡ 0) }
@@ -308,8 +309,8 @@ fn thin(places: &mut Vec<EntryPosition>, rows: &mut IndexMap<EntryName, EntryDat
     }
 }
 
-// Gives memory back where there is room for more than four times as many entries. What is kept has room
-// for as many rows again, and for the places that die until the dead ones are taken out the next time.
+// Gives memory back where there is room for more than four times as many entries. What is kept has
+// room for as many rows again, and for the places that die until the next time.
 fn give_back(places: &mut Vec<EntryPosition>, rows: &mut IndexMap<EntryName, EntryData>)
     requires { length rows.old.entries ≤ max_rows }
     ensures items { places.new.items ≡ places.old.items }

@@ -52,8 +52,8 @@ impl EntryData {
     }
 }
 
-/// Where the entry of a cookie is kept: in the row of this index, if that has its cookie. As bytes, the
-/// cookie needs no padding, so that a directory takes 12 bytes for it in place of 16.
+/// Where the entry of a cookie is kept: in the row of this index, if that has its cookie. As bytes,
+/// the cookie needs no padding, so that a place takes 12 bytes and not 16.
 #[derive(Drop)]
 pub(crate) struct EntryPosition {
     cookie: [u8; 8],

@@ -40,8 +40,8 @@ impl Model for EntryName {
 }
 
 impl EntryName {
-    /// The name with these bytes. One of up to 30 takes no memory. `AllocError` where there is none for
-    /// a longer one.
+    /// The name with these bytes. One of up to 30 takes no memory. `AllocError` where there is none
+    /// for a longer one.
     pub fn copied(alloc: Global, name: &[u8]) -> Result<EntryName, AllocError>
         ensures bytes { IfOk result (λ n. n ≡ name.now) }
         ensures short { length name.now ≤ 30 → IsOk result }
