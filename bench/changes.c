@@ -1,8 +1,8 @@
 /* The baselines of calls that change files, of ACCESS, and of a call that is denied: the same calls over the same files,
- * written plainly (changes.h). */
-#include "changes.h"
+ * written plainly (changes.h), with replies cached or not (answer.h). */
+#include "answer.h"
 
-enum { ROUNDS = 1000000, WRITES = 100000, RUNS = 5 };
+enum { ROUNDS = 1000000, WRITES = 100000, RUNS = 5, MOST = 64 };
 
 static const struct export exports[] = {{0, 0x0a000000, 24, ROOT, 65534, 65534}, {0, 0x0a000100, 24, NOBODY, 0, 0}, {0, 0x0a000209, 32, ALL, 7, 7}, {1, 0x0a000000, 24, NOBODY, 0, 0}};
 
@@ -74,14 +74,15 @@ static void measure_kept(uint32_t len) {
 
 int main(void) {
     volumes[0] = (struct limits){20000000, 12, 12, 8}, volumes[1] = (struct limits){1000, 4, 0, 1};
-    s = (struct server){{1, 2, 3, 4, 5, 6, 7, 8}, 10, files, 9, exports, 4, 0};
+    s = (struct server){{1, 2, 3, 4, 5, 6, 7, 8}, 10, NULL, 9, exports, 4, 0};
     static const unsigned char name_x[8] = {0, 0, 0, 1, 'x'}, name_y[8] = {0, 0, 0, 1, 'y'}, zeros[131072];
     unsigned char write[20] = {0};
+    s.files = files = some(MOST, sizeof *files);
     file(0, 2, 0755, 0, 0, 0), file(1, 2, 0777, 1, 0, 0), file(2, 1, 0711, 1, 5, 0), file(3, 1, 0710, 1, 5, 0), file(4, 1, 0640, 1, 2, 0);
     file(5, 2, 0007, 5, 0, 0), file(6, 1, 0, 5, 0, 0), file(7, 2, 0777, 0, 0, 1), file(8, 1, 0644, 9, sizeof zeros, 0);
     volumes[0].used += sizeof zeros;
-    enter(&files[1], (struct bytes){(const unsigned char *)"x", 1}, 3), enter(&files[1], (struct bytes){(const unsigned char *)"n", 1}, 4);
-    enter(&files[1], (struct bytes){(const unsigned char *)"large", 5}, 9);
+    enter(&files[1], (struct bytes){(const unsigned char *)"x", 1}, &files[2]), enter(&files[1], (struct bytes){(const unsigned char *)"n", 1}, &files[3]);
+    enter(&files[1], (struct bytes){(const unsigned char *)"large", 5}, &files[8]);
     begin(0, 4, 9), add_handle(0, 9), add(0, (unsigned char[]){0, 0, 0, 0x3f}, 4);
     measure("access", 0x0a000001, 1, ROUNDS);
     begin(0, 2, 9), add_handle(0, 9), add(0, (unsigned char[]){0, 0, 0, 1, 0, 0, 1, 0xa4}, 8), add(0, zeros, 24);
@@ -102,6 +103,8 @@ int main(void) {
     measure("rename", 0x0a000001, 2, ROUNDS);
     keeps = 1;
     measure("rename-kept", 0x0a000001, 2, ROUNDS);
+    use_index(&files[1]);
+    measure("rename-indexed", 0x0a000001, 2, ROUNDS);
     keeps = 0;
     static const uint32_t counts[] = {4096, 65536, 131072};
     for (int i = 0; i < 3; i++) {

@@ -1,21 +1,19 @@
 /* Calls that change files, ACCESS and GETATTR, written plainly.
  *
  * A call is read with its bounds tested, its credential squashed, its rules tested in their order, and the reply written
- * with its mark. Files stand in an array sorted by their numbers, a directory's entries in an array; a name, and a file's
- * bytes, are allocated. Who includes this has the files, the exports and the limits of volumes.
+ * with its mark. Files stand in an array sorted by their numbers; a name, and a file's bytes, are allocated. Who includes
+ * this has the exports and the limits of volumes.
  */
-#include "files.h"
+#include "directory.h"
 #include <stdio.h>
-#include <stdlib.h>
 
-enum { MOST = 64, MAX_FILE = 16777216 };
+enum { MAX_FILE = 16777216 };
 
 struct limits {
     uint64_t bytes, files, used, made;
 };
 
-static struct file files[MOST];
-static struct entry entries[MOST][MOST];
+static struct file *files;
 static struct limits volumes[2];
 static struct server s;
 static const struct moment at_now = {100, 0};
@@ -27,10 +25,6 @@ struct call {
     const struct export *export;
     struct input in;
 };
-
-static struct file *changed(const struct file *f) { return (struct file *)f; }
-
-static struct entry *entries_of(const struct file *dir) { return (struct entry *)dir->entries; }
 
 /* ---- weak cache data */
 
@@ -68,13 +62,6 @@ static uint32_t name_fails(struct call *c, struct bytes name) {
 
 static int is_dots(struct bytes name) { return (name.len == 1 && name.at[0] == '.') || (name.len == 2 && name.at[0] == '.' && name.at[1] == '.'); }
 
-static struct entry *entry_of(const struct file *dir, struct bytes name) {
-    for (size_t i = 0; i < dir->count; i++)
-        if (dir->entries[i].len == name.len && memcmp(dir->entries[i].name, name.at, name.len) == 0)
-            return &entries_of(dir)[i];
-    return NULL;
-}
-
 static uint32_t handle_of(struct call *c, const struct file **file) {
     struct bytes handle;
     if (!opaque(&c->in, 64, &handle))
@@ -109,24 +96,42 @@ static uint32_t dir_fails(struct call *c, const struct file *dir, struct bytes n
 
 static void touch(const struct file *f) { changed(f)->mtime = changed(f)->ctime = at_now; }
 
-static void enter(const struct file *dir, struct bytes name, uint64_t number) {
-    char *own = malloc(name.len);
-    memcpy(own, name.at, name.len);
-    entries_of(dir)[changed(dir)->count++] = (struct entry){own, name.len, number};
+static void enter(const struct file *dir, struct bytes name, const struct file *f) {
+    add_name(dir, name, f, (size_t)(f - files));
     touch(dir);
 }
 
 static void leave(const struct file *dir, struct entry *e) {
-    size_t place = (size_t)(e - dir->entries);
-    free((void *)e->name);
-    memmove(e, e + 1, (dir->count - place - 1) * sizeof *e);
-    changed(dir)->count--;
+    drop_name(dir, e);
     touch(dir);
+}
+
+static const struct file *file_of(const struct entry *e) { return find_at(&s, e->number, e->slot); }
+
+/* One file more, of a caller. */
+static struct file *add_file(uint32_t type, uint32_t mode, const struct ids *ids, const struct file *dir) {
+    struct file *f = &files[s.count++];
+    *f = (struct file){.number = s.next++, .type = type, .mode = mode, .nlink = type, .uid = ids->uid, .gid = ids->gid, .volume = dir->volume, .parent = dir->number,
+        .atime = at_now, .mtime = at_now, .ctime = at_now};
+    if (type == 2)
+        f->size = 4096, f->entries = some(ROWS, sizeof *f->entries);
+    volumes[dir->volume].made++;
+    return f;
+}
+
+static unsigned char *put_handle(unsigned char *at, const struct file *f) {
+    at = put(at, HANDLE);
+    memcpy(at, "NFS3", 4);
+    memcpy(at + 4, s.key, 8);
+    return put64(put(at + 12, s.tagged ? (uint32_t)(f - files) : 0), f->number);
 }
 
 static void drop(const struct file *f) {
     size_t place = (size_t)(f - files);
-    volumes[f->volume].used -= f->size;
+    if (f->type == 2)
+        free((void *)f->entries);
+    else
+        volumes[f->volume].used -= f->size;
     volumes[f->volume].made--;
     free((void *)f->bytes);
     memmove(changed(f), f + 1, (s.count - place - 1) * sizeof *f);
@@ -230,11 +235,12 @@ static unsigned char *do_write(struct call *c, unsigned char *at) {
     return at + 8;
 }
 
-static unsigned char *do_create(struct call *c, unsigned char *at) {
+/* CREATE and MKDIR. */
+static unsigned char *do_make(struct call *c, unsigned char *at) {
     const struct file *dir = NULL;
-    uint32_t how, has_mode, mode, status = handle_of(c, &dir);
+    uint32_t type = c->proc == 8 ? 1 : 2, how, has_mode, mode, status = handle_of(c, &dir);
     struct bytes name;
-    if (!opaque(&c->in, UINT32_MAX, &name) || !get(&c->in, &how) || how > 1 || !settings_of(&c->in, &has_mode, &mode))
+    if (!opaque(&c->in, UINT32_MAX, &name) || (type == 1 && (!get(&c->in, &how) || how > 1)) || !settings_of(&c->in, &has_mode, &mode))
         return NULL;
     if (status)
         return put(put(put(at, status), 0), 0);
@@ -251,14 +257,11 @@ static unsigned char *do_create(struct call *c, unsigned char *at) {
     }
     if (status)
         return wcc(put(at, status), &before);
-    struct file *f = &files[s.count++];
-    *f = (struct file){s.next++, 1, has_mode ? mode & 07777 : 0600, 1, c->ids.uid, c->ids.gid, 0, dir->volume, at_now, at_now, at_now, 0, NULL, 0, NULL};
-    v->made++;
-    enter(dir, name, f->number);
-    at = put(put(put(at, 0), 1), HANDLE);
-    memcpy(at, "NFS3", 4);
-    memcpy(at + 4, s.key, 8);
-    return wcc(shown(put64(put(at + 12, 0), f->number), f), &before);
+    const struct file *f = add_file(type, has_mode ? mode & 07777 : type == 1 ? 0600 : 0700, &c->ids, dir);
+    enter(dir, name, f);
+    if (type == 2)
+        changed(dir)->nlink++;
+    return wcc(shown(put_handle(put(put(at, 0), 1), f), f), &before);
 }
 
 /* Whether a directory that restricts deletion lets the entry of a file go. */
@@ -266,6 +269,7 @@ static int lets_go(const struct call *c, const struct file *dir, const struct fi
     return !(dir->mode & 01000) || c->ids.uid == 0 || c->ids.uid == dir->uid || c->ids.uid == f->uid;
 }
 
+/* REMOVE and RMDIR. */
 static unsigned char *do_remove(struct call *c, unsigned char *at) {
     const struct file *dir = NULL, *f = NULL;
     struct entry *e = NULL;
@@ -282,14 +286,20 @@ static unsigned char *do_remove(struct call *c, unsigned char *at) {
             status = fails(c, "no-entry", 2);
         else if (!(rights(&c->ids, dir) & 2))
             status = fails(c, "dir-write", 13);
-        else if (!lets_go(c, dir, f = find(&s, e->number)))
+        else if (!lets_go(c, dir, f = file_of(e)))
             status = fails(c, "sticky", 1);
-        else if (f->type == 2)
+        else if (c->proc == 12 && f->type == 2)
             status = fails(c, "is-dir", 21);
+        else if (c->proc == 13 && f->type != 2)
+            status = fails(c, "not-dir", 20);
+        else if (c->proc == 13 && f->count > 0)
+            status = fails(c, "not-empty", 66);
     }
     if (!status) {
         leave(dir, e);
         changed(f)->ctime = at_now;
+        if (f->type == 2)
+            changed(f)->nlink = 1, changed(dir)->nlink--;
         if (--changed(f)->nlink == 0)
             drop(f);
     }
@@ -319,134 +329,26 @@ static unsigned char *do_rename(struct call *c, unsigned char *at) {
     }
     if (!status) {
         uint64_t number = e->number;
-        f = find(&s, number);
+        f = file_of(e);
         other = entry_of(to, new_name);
         if (!other || other->number != number) {
-            if (!lets_go(c, from, f) || (other && !lets_go(c, to, find(&s, other->number))))
+            if (!lets_go(c, from, f) || (other && !lets_go(c, to, file_of(other))))
                 status = fails(c, "sticky", 1);
-            else if (other && (f->type == 2 || find(&s, other->number)->type == 2))
+            else if (other && (f->type == 2 || file_of(other)->type == 2))
                 status = fails(c, "incompatible", 17);
             else {
                 leave(from, e);
                 if ((other = entry_of(to, new_name))) {
-                    const struct file *gone = find(&s, other->number);
+                    const struct file *gone = file_of(other);
                     leave(to, other);
                     if (--changed(gone)->nlink == 0)
                         drop(gone);
                 }
-                enter(to, new_name, number);
-                changed(find(&s, number))->ctime = at_now;
+                f = find(&s, number);
+                enter(to, new_name, f);
+                changed(f)->ctime = at_now;
             }
         }
     }
     return wcc(wcc(put(at, status), &one), &two);
-}
-
-/* ---- cached replies: by address and record, hashed by its first 64 bytes, in the order of their last use */
-
-enum { PLACES = 128, BUCKETS = 256 };
-
-struct place {
-    uint32_t address, hash;
-    size_t len, reply_len;
-    unsigned char *record, reply[512];
-    struct place *newer, *older, *next;
-};
-
-static struct place places[PLACES], *newest, *oldest, *buckets[BUCKETS];
-static int keeps;
-
-static uint32_t hash_of(uint32_t address, const unsigned char *record, size_t len) {
-    uint32_t hash = (2166136261u ^ address) * 16777619u ^ (uint32_t)len;
-    for (size_t i = 0; i < len && i < 64; i++)
-        hash = (hash ^ record[i]) * 16777619u;
-    return hash;
-}
-
-static void unlink_place(struct place *p) {
-    if (p->newer) p->newer->older = p->older;
-    else newest = p->older;
-    if (p->older) p->older->newer = p->newer;
-    else oldest = p->newer;
-}
-
-static void to_front(struct place *p) {
-    p->newer = NULL, p->older = newest;
-    if (newest) newest->newer = p;
-    else oldest = p;
-    newest = p;
-}
-
-static struct place *find_place(uint32_t address, uint32_t hash, const unsigned char *record, size_t len) {
-    for (struct place *p = buckets[hash % BUCKETS]; p; p = p->next)
-        if (p->hash == hash && p->address == address && p->len == len && memcmp(p->record, record, len) == 0) {
-            unlink_place(p), to_front(p);
-            return p;
-        }
-    return NULL;
-}
-
-static struct place *take_place(uint32_t address, uint32_t hash, const unsigned char *record, size_t len) {
-    static size_t used;
-    struct place *p = used < PLACES ? &places[used++] : oldest;
-    if (p->record) {
-        struct place **at = &buckets[p->hash % BUCKETS];
-        while (*at != p) at = &(*at)->next;
-        *at = p->next;
-        unlink_place(p);
-        free(p->record);
-    }
-    p->address = address, p->hash = hash, p->len = len, p->record = malloc(len);
-    memcpy(p->record, record, len);
-    p->next = buckets[hash % BUCKETS], buckets[hash % BUCKETS] = p;
-    to_front(p);
-    return p;
-}
-
-/* ---- a call */
-
-__attribute__((noinline, noclone)) static size_t answer(uint32_t address, const unsigned char *record, size_t len, unsigned char *reply, char *line) {
-    struct call c = {.address = address, .in = {record, len}};
-    uint32_t kind, rpcvers, prog, vers, flavor, other;
-    struct bytes body, verifier;
-    if (!get(&c.in, &c.xid) || !get(&c.in, &kind) || kind != 0 || !get(&c.in, &rpcvers) || !get(&c.in, &prog) || !get(&c.in, &vers) || !get(&c.in, &c.proc) ||
-        !get(&c.in, &flavor) || !opaque(&c.in, 400, &body) || !get(&c.in, &other) || !opaque(&c.in, 400, &verifier))
-        return 0;
-    if (rpcvers != 2 || prog != 100003 || vers != 3 || flavor != 1 || !read_ids(body, &c.ids))
-        return 0;
-    c.rule_uid = UINT32_MAX;
-    unsigned char *at = put(put(put64(put(put(reply + 4, c.xid), 1), 0), 0), 0);
-    struct place *place = NULL;
-    if (keeps && (c.proc == 2 || c.proc == 7 || c.proc == 8 || c.proc == 12 || c.proc == 14)) {
-        uint32_t hash = hash_of(address, record, len);
-        if ((place = find_place(address, hash, record, len))) {
-            memcpy(reply, place->reply, place->reply_len);
-            return place->reply_len - 4;
-        }
-        place = take_place(address, hash, record, len);
-    }
-    switch (c.proc) {
-    case 1: at = do_getattr(&c, at); break;
-    case 2: at = do_setattr(&c, at); break;
-    case 4: at = do_access(&c, at); break;
-    case 7: at = do_write(&c, at); break;
-    case 8: at = do_create(&c, at); break;
-    case 12: at = do_remove(&c, at); break;
-    case 14: at = do_rename(&c, at); break;
-    default: at = NULL;
-    }
-    if (!at)
-        return 0;
-    if (c.rule)
-        snprintf(line, 200, "deny addr=%u.%u.%u.%u xid=%u prog=%u proc=%u uid=- rule=%s status=%u\n", address >> 24, address >> 16 & 255, address >> 8 & 255, address & 255, c.xid, prog, c.proc, c.rule, 13u);
-    put(reply, 0x80000000u | (uint32_t)(at - reply - 4));
-    if (place) {
-        place->reply_len = (size_t)(at - reply);
-        memcpy(place->reply, reply, place->reply_len);
-    }
-    return (size_t)(at - reply - 4);
-}
-
-static void file(size_t i, uint32_t type, uint32_t mode, uint32_t uid, uint64_t size, uint32_t volume) {
-    files[i] = (struct file){i + 1, type, mode, type == 2 ? 2 : 1, uid, uid, type == 2 ? 4096 : size, volume, {0, 0}, {0, 0}, {0, 0}, 1, entries[i], 0, type == 1 ? calloc(1, size + 1) : NULL};
 }

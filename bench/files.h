@@ -45,8 +45,11 @@ struct moment {
 struct entry {
     const char *name;
     size_t len;
-    uint64_t number;
+    uint64_t number, cookie;
+    uint32_t slot, hash;
 };
+
+struct names;
 
 struct file {
     uint64_t number;
@@ -58,6 +61,8 @@ struct file {
     const struct entry *entries;
     size_t count;
     const unsigned char *bytes;
+    struct names *names; /* the index of a directory's names, where it is in use (directory.h) */
+    uint64_t made;       /* how many names it has had */
 };
 
 enum squash { NOBODY, ROOT, ALL };
@@ -82,7 +87,10 @@ struct server {
     int tagged; /* whether the tag in a handle is the slot of its file, and not 0 */
 };
 
-static const struct file *find(const struct server *s, uint64_t number) {
+/* The file of a number, which may stand in this slot. */
+static const struct file *find_at(const struct server *s, uint64_t number, size_t slot) {
+    if (slot < s->count && s->files[slot].number == number)
+        return &s->files[slot];
     size_t low = 0, high = s->count;
     while (low < high) {
         size_t middle = (low + high) / 2;
@@ -96,6 +104,8 @@ static const struct file *find(const struct server *s, uint64_t number) {
     return NULL;
 }
 
+static const struct file *find(const struct server *s, uint64_t number) { return find_at(s, number, SIZE_MAX); }
+
 static uint32_t named(const struct server *s, struct bytes handle, const struct file **file) {
     if (handle.len != HANDLE || memcmp(handle.at, "NFS3", 4) != 0)
         return 10001;
@@ -104,8 +114,9 @@ static uint32_t named(const struct server *s, struct bytes handle, const struct 
     uint64_t number = hyper(handle.at + 16);
     if (number == 0 || number >= s->next)
         return 10001;
-    *file = find(s, number);
-    return *file && (uint32_t)hyper(handle.at + 8) == (s->tagged ? (uint32_t)(*file - s->files) : 0) ? 0 : 70;
+    uint32_t tag = (uint32_t)hyper(handle.at + 8);
+    *file = s->tagged ? find_at(s, number, tag) : find(s, number);
+    return *file && tag == (s->tagged ? (uint32_t)(*file - s->files) : 0) ? 0 : 70;
 }
 
 static const struct export *grant(const struct server *s, uint32_t volume, uint32_t address) {
