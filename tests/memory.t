@@ -167,7 +167,7 @@ ok $? "a growth refused while clients are served costs at most one of them its c
 note "$harmed times a client was refused, wrong:${wrong:- none}"
 
 # A call is answered SYSTEM_ERR by what the allocator said, so no crate that the service stands on makes an AllocError itself, but
-# where a directory has 2^32 - 1 entries, or the server as many files. nfs_load, which only loads descriptions, is not looked at,
+# where a directory has 2^32 - 1 places, or the server as many files. nfs_load, which only loads descriptions, is not looked at,
 # nor is nfs_words, whose texts say at their end that a growth was refused.
 crates=$(awk -F': *' '/^#/ { next } { uses[$1] = $2 }
     function add(it, n, names, i) { if ((it in seen) || !(it in uses) || it == "nfs_load" || it == "nfs_words") return; seen[it]; print it; n = split(uses[it], names, " "); for (i = 1; i <= n; i++) add(names[i]) }

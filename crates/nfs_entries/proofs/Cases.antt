@@ -1,7 +1,7 @@
 -- Cases of tests, options and lists with one value more.
 use Rattle.std.proofs.Common.{inl, inr, ◌≡◌, ◌≢◌, ◌⊎◌, ℕ, suc, zero, Bool, true, false, cond, List, [], ◌∷◌, ◌++◌, length, Option, Some, None, refl, sym, ap, ◌∙◌, arith}
-use Rattle.std.proofs.lemmas.Bool.{cases_eq}
-use Rattle.std.specs.Prelude.{Contains, bytes_eq, slice_get, find}
+use Rattle.std.proofs.lemmas.Bool.{cases_eq, eqb-true}
+use Rattle.std.specs.Prelude.{Contains, bytes_eq, nat_eq, slice_get, find}
 use Rattle.std.proofs.lemmas.Slice.Eq.{bytes_eq-Decides}
 
 pub by_test : {P : Type 0} (b : Bool) → (b ≡ true → P) → (b ≡ false → P) → P
@@ -20,6 +20,9 @@ by_number m n p q = elim (cases_eq m n) [
   | inl k ↦ p k
   | inr k ↦ q k
 ]
+
+pub not_equal : (a b : ℕ) → (a ≡ b → ⊥) → nat_eq a b ≡ false
+not_equal a b other = by_test (nat_eq a b) (λ y. absurd (other (eqb-true a b y))) (λ n. n)
 
 pub same_some : {X : Type 0} {x y : X} → Some x ≡ Some y → x ≡ y
 same_some e = cc

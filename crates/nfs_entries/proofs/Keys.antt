@@ -39,6 +39,11 @@ take_history (suc n) [] j less = refl
 take_history (suc n) (x ∷ xs) zero less = absurd (omega (arith, less))
 take_history (suc n) (x ∷ xs) (suc j) less = take_history n xs j (omega (arith, less))
 
+pub none_past : {X : Type 0} (xs : List X) (n : ℕ) → slice_get xs n ≡ None → length xs ≤ n
+none_past [] n at = omega arith
+none_past (x ∷ xs) zero at = absurd (not_both at refl)
+none_past (x ∷ xs) (suc n) at = let less = none_past xs n at in omega (arith, less)
+
 pub set_get : {X : Type 0} (xs : List X) (i : ℕ) (y : X) → i < length xs → slice_get (slice_set xs i y) i ≡ Some y
 set_get [] i y within = absurd (omega (arith, within))
 set_get (x ∷ xs) zero y within = refl

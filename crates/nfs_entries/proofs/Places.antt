@@ -1,14 +1,13 @@
 -- Places by rising cookie.
-use Rattle.std.proofs.Common.{◌≡◌, ℕ, zero, suc, ◌<◌, ◌≤◌, ◌-◌, Bool, true, false, List, [], ◌∷◌, ◌++◌, length, take, drop, get_or, nat_le, nat_lt, nat_eq, refl, sym, ap, subst, ◌∙◌, arith}
-use Rattle.std.specs.Prelude.{slice_set}
+use Rattle.std.proofs.Common.{◌≡◌, ℕ, zero, suc, ◌<◌, ◌≤◌, ◌-◌, Bool, true, List, [], ◌∷◌, ◌++◌, length, take, drop, get_or, nat_le, nat_lt, refl, sym, ap, subst, ◌∙◌, arith}
+use Rattle.std.specs.Prelude.{Some, slice_get, slice_set}
 use Rattle.std.specs.List.{filter}
 use Rattle.std.specs.List.Sorted.{IsPartitionedBy}
-use Rattle.std.proofs.lemmas.Bool.{leb-true, le-leb, lt-ltb, le-ltb, ltb-true, ltb-false, eq-eqb, eqb-true}
-use Rattle.std.proofs.lemmas.Option.{slice_get-get_or}
+use Rattle.std.proofs.lemmas.Bool.{leb-true, le-leb, lt-ltb, le-ltb, ltb-true}
 use Rattle.std.proofs.Math.Seq.{take-length}
 use Rattle.std.proofs.lemmas.List.{length-drop}
 use Rattle.nfs_entries.specs.Listing.{PlaceValue, Rises, led}
-use Rattle.nfs_entries.proofs.Cases.{by_test, by_number, if_true, if_false, same_some}
+use Rattle.nfs_entries.proofs.Cases.{by_test, by_number, if_true, if_false, same_some, not_both}
 
 -- all that follows some elements
 pub rest_of : {X : Type 0} (n : ℕ) (xs : List X) → take (length xs - n) (drop n xs) ≡ drop n xs
@@ -53,36 +52,45 @@ after_point cookie (x ∷ xs) (suc first) bound below above =
     after_point cookie xs first (omega (arith, bound)) (λ k d less. below (suc k) d (omega (arith, less))) (λ k d from within. above (suc k) d (omega (arith, from)) (omega (arith, within)))
     ∙ sym (if_false (x ∷ filter (λ p. nat_lt cookie p.cookie) xs) (filter (λ p. nat_lt cookie p.cookie) xs) (le-ltb _ _ (below 0 x (omega arith))))
 
--- where each cookie is another, none is led elsewhere
-pub led_none : (cookie index : ℕ) (ps : List PlaceValue) → ((k : ℕ) (d : PlaceValue) → k < length ps → nat_eq (get_or ps k d).cookie cookie ≡ false) → led cookie index ps ≡ ps
-led_none cookie index [] other = refl
-led_none cookie index (p ∷ ps) other =
-    (λ i. if_false (record { cookie = cookie; index = index }) p (other 0 p (omega arith)) i ∷ led_none cookie index ps (λ k d less. other (suc k) d (omega (arith, less))) i)
+-- ---- a place that leads to another row
 
-pub not_equal : (a b : ℕ) → (a ≡ b → ⊥) → nat_eq a b ≡ false
-not_equal a b other = by_test (nat_eq a b) (λ y. absurd (other (eqb-true a b y))) (λ n. n)
+abbrev pub leading : ℕ → PlaceValue → PlaceValue
+leading index p = record { cookie = p.cookie; index = index }
 
--- where the place at an index has the cookie, that one is led elsewhere
-pub led_point : (cookie index low next : ℕ) (ps : List PlaceValue) (n : ℕ) (d : PlaceValue) → Rises low ps next → n < length ps → (get_or ps n d).cookie ≡ cookie
-    → slice_set ps n (record { cookie = cookie; index = index }) ≡ led cookie index ps
-led_point cookie index low next [] n d rises within is = absurd (omega (arith, within))
-led_point cookie index low next (p ∷ ps) zero d rises within is =
-    let rest = led_none cookie index ps (λ k d less. not_equal (get_or ps k d).cookie cookie (λ same. absurd (let up = from_low (suc p.cookie) next ps k d rises.1 less in omega (arith, up, same, is)))) in
-    (λ i. sym (if_true (record { cookie = cookie; index = index }) p (eq-eqb p.cookie cookie is)) i ∷ sym rest i)
-led_point cookie index low next (p ∷ ps) (suc n) d rises within is =
-    let less = from_low (suc p.cookie) next ps n d rises.1 (omega (arith, within)) in
-    let rest = led_point cookie index (suc p.cookie) next ps n d rises.1 (omega (arith, within)) is in
-    (λ i. sym (if_false (record { cookie = cookie; index = index }) p (not_equal p.cookie cookie (λ same. absurd (omega (arith, less, same, is))))) i ∷ rest i)
+pub led_here : (k index : ℕ) (ps : List PlaceValue) (p : PlaceValue) → slice_get ps k ≡ Some p → slice_get (led k index ps) k ≡ Some (leading index p)
+led_here k index [] p at = absurd (not_both refl at)
+led_here zero index (q ∷ ps) p at = ap (λ (p : PlaceValue). Some (leading index p)) (same_some at)
+led_here (suc k) index (q ∷ ps) p at = led_here k index ps p at
+
+pub led_else : (k index : ℕ) (ps : List PlaceValue) (j : ℕ) → (j ≡ k → ⊥) → slice_get (led k index ps) j ≡ slice_get ps j
+led_else k index [] j other = refl
+led_else zero index (q ∷ ps) zero other = absurd (other refl)
+led_else zero index (q ∷ ps) (suc j) other = refl
+led_else (suc k) index (q ∷ ps) zero other = refl
+led_else (suc k) index (q ∷ ps) (suc j) other = led_else k index ps j (λ same. other (ap suc same))
+
+pub length-led : (k index : ℕ) (ps : List PlaceValue) → length (led k index ps) ≡ length ps
+length-led k index [] = refl
+length-led zero index (p ∷ ps) = refl
+length-led (suc k) index (p ∷ ps) = ap suc (length-led k index ps)
+
+-- past the end none is led elsewhere
+pub led_past : (k index : ℕ) (ps : List PlaceValue) → length ps ≤ k → ps ≡ led k index ps
+led_past k index [] past = refl
+led_past zero index (p ∷ ps) past = absurd (omega (arith, past))
+led_past (suc k) index (p ∷ ps) past = ap (λ qs. p ∷ qs) (led_past k index ps (omega (arith, past)))
+
+-- the place is written anew with its own cookie
+pub led_set : (k index : ℕ) (ps : List PlaceValue) (d : PlaceValue) → k < length ps → slice_set ps k (record { cookie = (get_or ps k d).cookie; index = index }) ≡ led k index ps
+led_set k index [] d within = absurd (omega (arith, within))
+led_set zero index (p ∷ ps) d within = refl
+led_set (suc k) index (p ∷ ps) d within = ap (λ qs. p ∷ qs) (led_set k index ps d (omega (arith, within)))
 
 -- cookies stay, so they rise as before
-pub led_rises : (cookie index low next : ℕ) (ps : List PlaceValue) → Rises low ps next → Rises low (led cookie index ps) next
-led_rises cookie index low next [] rises = rises
-led_rises cookie index low next (p ∷ ps) rises = by_test (nat_eq p.cookie cookie)
-    (λ y. let head = if_true (record { cookie = cookie; index = index }) p y in
-    subst (λ q. (low ≤ q.cookie) × Rises (suc q.cookie) (led cookie index ps) next) (sym head)
-    (subst (λ n. (low ≤ n) × Rises (suc n) (led cookie index ps) next) (eqb-true p.cookie cookie y) (rises.0, led_rises cookie index (suc p.cookie) next ps rises.1)))
-    (λ n. let head = if_false (record { cookie = cookie; index = index }) p n in
-    subst (λ q. (low ≤ q.cookie) × Rises (suc q.cookie) (led cookie index ps) next) (sym head) (rises.0, led_rises cookie index (suc p.cookie) next ps rises.1))
+pub led_rises : (k index low next : ℕ) (ps : List PlaceValue) → Rises low ps next → Rises low (led k index ps) next
+led_rises k index low next [] rises = rises
+led_rises zero index low next (p ∷ ps) rises = rises
+led_rises (suc k) index low next (p ∷ ps) rises = (rises.0, led_rises k index (suc p.cookie) next ps rises.1)
 
 -- a greater bound below is given up
 pub from_less : (low more next : ℕ) (ps : List PlaceValue) → low ≤ more → Rises more ps next → Rises low ps next
@@ -103,19 +111,16 @@ pub push_rises : (low next index : ℕ) (ps : List PlaceValue) → Rises low ps 
 push_rises low next index [] rises = (rises, omega arith)
 push_rises low next index (p ∷ ps) rises = (rises.0, push_rises (suc p.cookie) next index ps rises.1)
 
--- the value read where there is none doesn't matter within
-pub same_read : {X : Type 0} (xs : List X) (k : ℕ) (d e : X) → k < length xs → get_or xs k d ≡ get_or xs k e
-same_read xs k d e within = same_some (sym (slice_get-get_or xs k d within) ∙ slice_get-get_or xs k e within)
+-- ---- a cookie has one place
 
--- where the first place that isn't below a cookie is past the end, or another's, none is led elsewhere
-pub led_other : (cookie index next : ℕ) (ps : List PlaceValue) (n : ℕ) → Rises 0 ps next
-    → ((k : ℕ) (d : PlaceValue) → k < n → k < length ps → (get_or ps k d).cookie < cookie) → ((k : ℕ) (d : PlaceValue) → n ≤ k → k < length ps → cookie ≤ (get_or ps k d).cookie)
-    → ((d : PlaceValue) → n < length ps → (get_or ps n d).cookie ≡ cookie → ⊥) → ps ≡ led cookie index ps
-led_other cookie index next ps n rises below above other = sym (led_none cookie index ps (λ k d within. not_equal (get_or ps k d).cookie cookie (λ same. by_test (nat_lt k n)
-    (λ y. absurd (let less = below k d (ltb-true k n y) within in omega (arith, less, same)))
-    (λ f. by_number k n
-    (λ at. absurd (other d (subst (λ k. k < length ps) at within) (subst (λ k. (get_or ps k d).cookie ≡ cookie) at same)))
-    (λ differ. absurd (let from = ltb-false k n f in
-    let up = later 0 next ps n k d rises (omega (arith, from, differ)) within in
-    let low = above n d (omega arith) (omega (arith, from, within)) in
-    omega (arith, up, low, same)))))))
+pub get_low : (low next : ℕ) (ps : List PlaceValue) (k : ℕ) (p : PlaceValue) → Rises low ps next → slice_get ps k ≡ Some p → low ≤ p.cookie
+get_low low next [] k p rises at = absurd (not_both refl at)
+get_low low next (q ∷ ps) zero p rises at = subst (λ (p : PlaceValue). low ≤ p.cookie) (same_some at) rises.0
+get_low low next (q ∷ ps) (suc k) p rises at = let up = get_low (suc q.cookie) next ps k p rises.1 at in let first = rises.0 in omega (arith, up, first)
+
+pub one_position : (low next : ℕ) (ps : List PlaceValue) (j k : ℕ) (p : PlaceValue) → Rises low ps next → slice_get ps j ≡ Some p → slice_get ps k ≡ Some p → j ≡ k
+one_position low next [] j k p rises at_j at_k = absurd (not_both refl at_j)
+one_position low next (q ∷ ps) zero zero p rises at_j at_k = refl
+one_position low next (q ∷ ps) zero (suc k) p rises at_j at_k = absurd (let up = get_low (suc q.cookie) next ps k p rises.1 at_k in let same = ap (λ (p : PlaceValue). p.cookie) (same_some at_j) in omega (arith, up, same))
+one_position low next (q ∷ ps) (suc j) zero p rises at_j at_k = absurd (let up = get_low (suc q.cookie) next ps j p rises.1 at_j in let same = ap (λ (p : PlaceValue). p.cookie) (same_some at_k) in omega (arith, up, same))
+one_position low next (q ∷ ps) (suc j) (suc k) p rises at_j at_k = ap suc (one_position (suc q.cookie) next ps j k p rises.1 at_j at_k)

@@ -1,11 +1,11 @@
-//! The entries of a directory: rows with an index of their names, and places by rising cookie that
-//! lead to them. A name stands in its row, unless it is long. An entry that goes leaves its place
-//! behind, dead; where half of them are, they go, and unused memory is given back.
+//! The entries of a directory: rows with an index of their names, and places by rising cookie. A place
+//! leads to its row, and a row to its place. A name stands in its row, unless it is long. An entry that
+//! goes leaves its place behind, dead; where half of them are, they go, and unused memory is given back.
 ghost use Rattle.std.specs.Prelude.{ℕ, IsTrue, ◌↔◌, ◌≡◌, ◌+◌, ◌<◌, ◌≤◌, ◌++◌, ◌∷◌, [], false, OnOk, OnErr, IfSome, IfNone, ◌⊎◌, None};
 ghost use Rattle.std.specs.Prelude.{nat_le, nat_lt, option_map, slice_get, filter, length, vec_len, vec_capacity, ◌^◌};
 ghost use Rattle.std.specs.Iterator.{YieldsFirstBy, item_count};
 ghost use Rattle.indexmap.specs.IndexMap.{spare as room};
-ghost use Rattle.nfs_entries.specs.Listing.{AreFew, max_rows, entries_beyond, entry_named, number_named, without, listed, led, is_live, settled, IsRowOf, HasNo, Rises};
+ghost use Rattle.nfs_entries.specs.Listing.{AreFew, KeptValue, max_rows, entries_beyond, entry_named, number_named, without, listed, led, linked, is_live, settled, IsRowOf, HasNo, IsThinned, Rises};
 ghost use Rattle.nfs_entries.specs.Listing as spec;
 ghost use Rattle.nfs_entries.specs.Seen.{entry_seen, entries_left};
 
@@ -19,8 +19,11 @@ use std::marker::Model;
 // So many dead places are left where there are few entries.
 const FEW: usize = 16;
 
-// A place has four bytes for the index of its row.
+// A place has four bytes for the index of its row, and a row as many for that of its place.
 const MAX_ROWS: usize = u32::MAX as usize;
+
+// The index in a place whose entry is gone. No row has it.
+const NO_ROW: u32 = u32::MAX;
 
 /// An entry.
 #[derive(Clone, Copy)]
@@ -51,10 +54,10 @@ impl Model for DirectoryEntries {
     ghost view = { λ m. record {
       entries = listed m.rows.entries m.places.items;
       next = m.next;
-      spare = min (max_rows - length m.rows.entries) (min (room m.rows) (vec_capacity m.places - vec_len m.places));
+      spare = min (min (max_rows - length m.rows.entries) (max_rows - length m.places.items)) (min (room m.rows) (vec_capacity m.places - vec_len m.places));
     } };
 
-    ghost invariant = { λ m. IsKept m.rows.entries m.places.items m.next × AreFew m.rows.entries m.places.items × (length m.rows.entries ≤ max_rows) };
+    ghost invariant = { λ m. IsKept m.rows.entries m.places.items m.next × AreFew m.rows.entries m.places.items × (length m.places.items ≤ max_rows) };
 }
 
 impl DirectoryEntries {
@@ -91,7 +94,7 @@ impl DirectoryEntries {
         ensures { option_map (λ n. n.0) result ≡ number_named name.now self.now.entries }
     {
         match row_named(&self.rows, name) {
-            Some((_, number)) => Some(number),
+            Some((_, kept)) => Some(kept.number()),
             None => None,
         }
     }
@@ -117,14 +120,14 @@ impl DirectoryEntries {
     }
 
     /// Room for one entry more. `AllocError` where there is no room, and either no memory for it or
-    /// 2^32 - 1 entries.
+    /// 2^32 - 1 places, of entries and of some that went.
     pub fn reserve(&mut self) -> Result<(), AllocError>
         ensures ok { OnOk result (0 < self.new.spare) }
         ensures full { OnErr result (self.old.spare ≡ 0) }
         ensures entries { self.new.entries ≡ self.old.entries }
         ensures next { self.new.next ≡ self.old.next }
     {
-        if self.rows.len() >= MAX_ROWS {
+        if self.rows.len().max(self.places.len()) >= MAX_ROWS {
             return Err(AllocError);
         }
         self.rows.reserve(1)?;
@@ -143,8 +146,9 @@ impl DirectoryEntries {
         let cookie = self.next;
         self.next += 1;
         let index = self.rows.len() as u32;
+        let place = self.places.len() as u32;
         self.rows
-            .insert(name, EntryData::new(cookie, number))
+            .insert(name, EntryData::new(place, number))
             .unwrap();
         self.places.push(EntryPosition::new(cookie, index)).unwrap();
     }
@@ -156,11 +160,13 @@ impl DirectoryEntries {
         ensures next { self.new.next ≡ self.old.next }
         ensures room { 0 < self.old.spare → 0 < self.new.spare }
     {
-        let Some((index, _)) = row_named(&self.rows, name) else {
+        let Some((index, kept)) = row_named(&self.rows, name) else {
             return;
         };
+        let place = kept.place();
         self.rows.swap_remove_index(index);
-        settle(&mut self.places, &self.rows, index as u32);
+        lead(&mut self.places, place, NO_ROW);
+        settle(&mut self.places, &self.rows, index);
         thin(&mut self.places, &mut self.rows);
     }
 }
@@ -217,94 +223,62 @@ fn first_live<'a>(
     None
 }
 
-// The index of the row of a name, and the number there.
+// The index of the row of a name, and what is kept there.
 #[inline(always)]
-fn row_named(rows: &IndexMap<EntryName, EntryData>, name: &[u8]) -> Option<(usize, Number)>
-    ensures found { IfSome result (λ f. IsRowOf rows.now.entries name.now f.0 f.1.0) }
+fn row_named<'a>(
+    rows: &'a IndexMap<EntryName, EntryData>,
+    name: &[u8],
+) -> Option<(usize, &'a EntryData)>
+    ensures found { IfSome result (λ f. IsRowOf rows.now.entries name.now f.0 f.1.now) }
     ensures within { IfSome result (λ f. f.0 < length rows.now.entries) }
     ensures none { IfNone result (HasNo rows.now.entries name.now) }
 {
     match rows.get_full(SoughtName { bytes: name }) {
-        Some((index, _, kept)) => Some((index, kept.number())),
+        Some((index, _, kept)) => Some((index, kept)),
         None => None,
     }
 }
 
 // The place of the row that came to an index, if one did, leads there.
-fn settle(places: &mut Vec<EntryPosition>, rows: &IndexMap<EntryName, EntryData>, index: u32)
-    requires { (next : ℕ) × Rises 0 places.old.items next }
+fn settle(places: &mut Vec<EntryPosition>, rows: &IndexMap<EntryName, EntryData>, index: usize)
+    requires { index < max_rows }
     ensures items { places.new.items ≡ settled index (slice_get rows.now.entries index) places.old.items }
     ensures len { vec_len places.new ≡ vec_len places.old }
     ensures capacity { vec_capacity places.new ≡ vec_capacity places.old }
 {
-    if let Some((_, kept)) = rows.get_index(index as usize) {
-        lead(places, kept.cookie(), index);
+    if let Some((_, kept)) = rows.get_index(index) {
+        lead(places, kept.place(), index as u32);
     }
 }
 
-// The place of a cookie leads to this row.
-fn lead(places: &mut Vec<EntryPosition>, cookie: u64, index: u32)
-    requires { (next : ℕ) × Rises 0 places.old.items next }
-    ensures items { places.new.items ≡ led cookie index places.old.items }
-    ensures len { vec_len places.new ≡ vec_len places.old }
-    ensures capacity { vec_capacity places.new ≡ vec_capacity places.old }
-{
-    if !lead_at_once(places, cookie, index) {
-        lead_by_halving(places, cookie, index);
-    }
-}
-
-// The same where the place stands as far after the first as its cookie is above the first's, as it does
-// up to the first place that went. `false` elsewhere, and then nothing changes.
+// The place at an index leads to this row.
 #[inline(always)]
-fn lead_at_once(places: &mut Vec<EntryPosition>, cookie: u64, index: u32) -> bool
-    requires { (next : ℕ) × Rises 0 places.old.items next }
-    ensures items { IsTrue result → places.new.items ≡ led cookie index places.old.items }
-    ensures same { (result ≡ false) → places.new.items ≡ places.old.items }
+fn lead(places: &mut Vec<EntryPosition>, at: usize, row: u32)
+    ensures items { places.new.items ≡ led at row places.old.items }
     ensures len { vec_len places.new ≡ vec_len places.old }
     ensures capacity { vec_capacity places.new ≡ vec_capacity places.old }
 {
-    let first = match places.first() {
-        Some(place) => place.cookie(),
-        None => return false,
-    };
-    let at = cookie.saturating_sub(first) as usize;
-    if at < places.len() && places[at].cookie() == cookie {
-        places[at] = EntryPosition::new(cookie, index);
-        true
-    } else {
-        false
-    }
-}
-
-fn lead_by_halving(places: &mut Vec<EntryPosition>, cookie: u64, index: u32)
-    requires { (next : ℕ) × Rises 0 places.old.items next }
-    ensures items { places.new.items ≡ led cookie index places.old.items }
-    ensures len { vec_len places.new ≡ vec_len places.old }
-    ensures capacity { vec_capacity places.new ≡ vec_capacity places.old }
-{
-    let at = places.as_slice().partition_point(
-        |place: &EntryPosition| -> bool
-            ensures { result ≡ nat_lt place.now.cookie cookie }
-        { place.cookie() < cookie },
-    );
-    if at < places.len() && places[at].cookie() == cookie {
-        places[at] = EntryPosition::new(cookie, index);
+    if at < places.len() {
+        let cookie = places[at].cookie();
+        places[at] = EntryPosition::new(cookie, row);
     }
 }
 
 // Takes the dead places out where they are more than half, or no entry is left, in no memory. Then
 // memory is given back.
 fn thin(places: &mut Vec<EntryPosition>, rows: &mut IndexMap<EntryName, EntryData>)
-    requires { length rows.old.entries ≤ max_rows }
-    ensures items { places.new.items ≡ places.old.items ⊎ places.new.items ≡ filter (is_live rows.old.entries) places.old.items }
-    ensures entries { rows.new.entries ≡ rows.old.entries }
-    ensures few { AreFew rows.old.entries places.new.items }
+    requires rows { length rows.old.entries ≤ max_rows }
+    requires places { length places.old.items ≤ max_rows }
+    ensures kept { IsThinned rows.old.entries places.old.items rows.new.entries places.new.items }
+    ensures few { AreFew rows.new.entries places.new.items }
+    ensures rows { length rows.new.entries ≡ length rows.old.entries }
     ensures place { vec_len places.old < vec_capacity places.old → vec_len places.new < vec_capacity places.new }
+    ensures len { vec_len places.new ≤ vec_len places.old }
     ensures row { 0 < room rows.old → 0 < room rows.new }
 {
     if rows.is_empty() || places.len() / 2 > rows.len() + FEW {
         close_up(places, rows);
+        link(places.as_slice(), rows);
         give_back(places, rows);
     }
 }
@@ -338,7 +312,20 @@ fn close_up(places: &mut Vec<EntryPosition>, rows: &IndexMap<EntryName, EntryDat
     );
 }
 
-// The entry that still stands at a place.
+// Each row to which a place leads has that place.
+fn link(places: &[EntryPosition], rows: &mut IndexMap<EntryName, EntryData>)
+    requires { length places.now ≤ max_rows }
+    ensures entries { rows.new.entries ≡ linked 0 places.now rows.old.entries }
+    ensures room { room rows.new ≡ room rows.old }
+{
+    for (at, place) in places.iter().enumerate() {
+        if let Some(kept) = rows.get_index_mut(place.index()) {
+            kept.move_to(at as u32);
+        }
+    }
+}
+
+// The entry that stands at a place.
 #[inline(always)]
 fn standing<'a>(
     rows: &'a IndexMap<EntryName, EntryData>,
@@ -346,12 +333,10 @@ fn standing<'a>(
 ) -> Option<EntryView<'a>>
     ensures { option_map entry_seen result ≡ spec.standing rows.now.entries place.now }
 {
-    match rows.get_index(place.index()) {
-        Some((name, kept)) if kept.cookie() == place.cookie() => Some(EntryView {
-            cookie: place.cookie(),
-            name: name.as_slice(),
-            number: kept.number(),
-        }),
-        _ => None,
-    }
+    let (name, kept) = rows.get_index(place.index())?;
+    Some(EntryView {
+        cookie: place.cookie(),
+        name: name.as_slice(),
+        number: kept.number(),
+    })
 }

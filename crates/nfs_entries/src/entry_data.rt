@@ -4,14 +4,16 @@ ghost use Rattle.std.specs.Prelude.{◌≡◌};
 use nfs_handles::number::{Hint, Number};
 use std::marker::Model;
 
-/// What is kept beside a name: a cookie, and the number of a file. As bytes, they need no padding, and take
-/// 20 bytes in place of 24.
+/// What is kept beside a name: the index of its place, and the number of a file. As bytes, the number needs
+/// no padding, so that this takes 16 bytes.
 #[derive(Drop)]
 pub(crate) struct EntryData {
-    cookie: [u8; 8],
-    fileid: [u8; 8],
+    place: u32,
     hint: Hint,
+    fileid: [u8; 8],
 }
+
+const _: () = prove!(size_of::<EntryData>() == 16);
 
 impl Model for EntryData {
     ghost use Rattle.std.specs.Int.{w64, from_le_bytes};
@@ -19,28 +21,36 @@ impl Model for EntryData {
 
     ghost Value = { KeptValue };
 
-    ghost view = { λ k. record { cookie = from_le_bytes w64 k.cookie; number = from_le_bytes w64 k.fileid } };
+    ghost view = { λ k. record { place = k.place; number = from_le_bytes w64 k.fileid } };
 }
 
 impl EntryData {
-    /// A cookie and a number.
+    /// The index of a place, and a number.
     #[inline(always)]
-    pub(crate) fn new(cookie: u64, number: Number) -> EntryData
-        ensures { result ≡ record { cookie = cookie; number = number.0 } }
+    pub(crate) fn new(place: u32, number: Number) -> EntryData
+        ensures { result ≡ record { place = place; number = number.0 } }
     {
         EntryData {
-            cookie: cookie.to_le_bytes(),
-            fileid: number.0.to_le_bytes(),
+            place,
             hint: number.1,
+            fileid: number.0.to_le_bytes(),
         }
     }
 
-    /// Where a listing goes on after the entry.
+    /// The index of the entry's place.
     #[inline(always)]
-    pub(crate) fn cookie(&self) -> u64
-        ensures { result ≡ self.now.cookie }
+    pub(crate) fn place(&self) -> usize
+        ensures { result ≡ self.now.place }
     {
-        u64::from_le_bytes(self.cookie)
+        self.place as usize
+    }
+
+    /// The entry has its place at another index.
+    #[inline(always)]
+    pub(crate) fn move_to(&mut self, place: u32)
+        ensures { self.new ≡ record { place = place; number = self.old.number } }
+    {
+        self.place = place;
     }
 
     /// The file that the entry names.
@@ -52,8 +62,8 @@ impl EntryData {
     }
 }
 
-/// Where the entry of a cookie is kept: in the row of this index, if that has its cookie. As bytes,
-/// the cookie needs no padding, so that a place takes 12 bytes and not 16.
+/// The place of an entry: its cookie, and the index of the row that has its name. As bytes, the cookie
+/// needs no padding, so that a place takes 12 bytes and not 16.
 #[derive(Drop)]
 pub(crate) struct EntryPosition {
     cookie: [u8; 8],

@@ -1,6 +1,6 @@
-use Rattle.std.proofs.Common.{◌≤◌, rules, ap, sym, subst, ◌∙◌}
-use Rattle.std.specs.Prelude.{length}
-use Rattle.nfs_entries.specs.Listing.{AreFew, IsKept, Listed, listed, max_rows, without}
+use Rattle.std.proofs.Common.{rules, ◌<◌, ap, sym, subst, ◌∙◌, arith}
+use Rattle.nfs_entries.specs.Listing.{Listed, led, listed, no_row, without}
+use Rattle.nfs_entries.proofs.Room.{some_left}
 use Rattle.nfs_entries.proofs.Rows.{none_listed}
 use Rattle.nfs_entries.proofs.Removals.{removed, without_none}
 use Rattle.nfs_entries.proofs.directory_entries.DirectoryEntries.remove.Goals as goal
@@ -12,17 +12,21 @@ returns-in_default-clause-others c =
     ∙ ap (λ (v : Listed). without c.args.name.now v.entries) c.self.view_is
 
 pub invariant_of-self : goal.invariant_of-self
-invariant_of-self c =
-    subst (λ rows. IsKept rows c.thin.new.places.items c.self.inside.next × AreFew rows c.thin.new.places.items × (length rows ≤ max_rows)) (sym c.thin.ensures.entries) (
-      (removed c.args.name.now c.self.inside.rows.entries c.swap_remove_index.new.self.entries c.self.inside.places.items c.settle.new.places.items c.thin.new.places.items c.self.inside.next _ _ c.self.invariant.0 c.in-Some.ensures.found
-          c.swap_remove_index.result c.swap_remove_index.ensures.entry c.swap_remove_index.ensures.entries c.settle.ensures.items c.thin.ensures.items).1,
-      c.thin.ensures.few,
-      search rules,
-    )
+invariant_of-self c = (
+  (removed c.args.name.now c.self.inside.rows.entries c.swap_remove_index.new.self.entries c.thin.new.rows.entries c.self.inside.places.items c.lead.new.places.items c.settle.new.places.items c.thin.new.places.items c.self.inside.next _ _
+      c.self.invariant.0 c.in-Some.ensures.found c.swap_remove_index.result c.swap_remove_index.ensures.entry c.swap_remove_index.ensures.entries
+      (c.lead.ensures.items ∙ ap (λ k. led k no_row c.self.inside.places.items) c.place-place.ensures) c.settle.ensures.items c.thin.ensures.kept).1,
+  c.thin.ensures.few,
+  search rules,
+)
 
 pub returns-clause-others : goal.returns-clause-others
 returns-clause-others c =
-    ap (λ rows. listed rows c.thin.new.places.items) c.thin.ensures.entries
-    ∙ (removed c.args.name.now c.self.inside.rows.entries c.swap_remove_index.new.self.entries c.self.inside.places.items c.settle.new.places.items c.thin.new.places.items c.self.inside.next _ _ c.self.invariant.0 c.in-Some.ensures.found
-    c.swap_remove_index.result c.swap_remove_index.ensures.entry c.swap_remove_index.ensures.entries c.settle.ensures.items c.thin.ensures.items).0
+    (removed c.args.name.now c.self.inside.rows.entries c.swap_remove_index.new.self.entries c.thin.new.rows.entries c.self.inside.places.items c.lead.new.places.items c.settle.new.places.items c.thin.new.places.items c.self.inside.next _ _
+    c.self.invariant.0 c.in-Some.ensures.found c.swap_remove_index.result c.swap_remove_index.ensures.entry c.swap_remove_index.ensures.entries
+    (c.lead.ensures.items ∙ ap (λ k. led k no_row c.self.inside.places.items) c.place-place.ensures) c.settle.ensures.items c.thin.ensures.kept).0
     ∙ ap (λ (v : Listed). without c.args.name.now v.entries) c.self.view_is
+
+pub returns-clause-room : goal.returns-clause-room
+returns-clause-room c = λ some. some_left _ _ _ _ _ _ _ _ (λ rows. search rules) (λ places. search rules) (λ row. c.thin.ensures.row (let keeps = c.swap_remove_index.ensures.room in omega (arith, row, keeps))) (λ place. search rules)
+    (subst (λ (v : Listed). 0 < v.spare) (sym c.self.view_is) some)
