@@ -12,7 +12,7 @@ use nfs_commands::extracting::extract_tree;
 use nfs_commands::replay::replay_files;
 use nfs_commands::why::print_why;
 use nfs_control::asking::control;
-use nfs_recovery::journal_work::do_journal;
+use nfs_recovery::journal_work::{do_journal, rerun_journal};
 use nfs_source::diagnostic::Diagnostic;
 use nfs_source::fault::Fault;
 use std::alloc::{AllocError, Global};
@@ -70,7 +70,10 @@ where
         Some(Invocation::Check(words)) => check_file(rt, alloc, words),
         Some(Invocation::Why(words)) => print_why(rt, alloc, words),
         Some(Invocation::Exports(words)) => print_exports(rt, alloc, words.tree()),
-        Some(Invocation::Replay(words)) => replay_files(rt, alloc, words),
+        Some(Invocation::Replay(words)) => match words.journal() {
+            Some(name) => rerun_journal(rt, alloc, words.tree(), name),
+            None => replay_files(rt, alloc, words),
+        },
         Some(Invocation::Serve(words)) => serve_tree(rt, alloc, words),
         Some(Invocation::Control(words)) => control(rt, alloc, words),
         Some(Invocation::Describe(words)) => describe_directories(rt, alloc, words),

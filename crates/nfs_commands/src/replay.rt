@@ -5,7 +5,6 @@ use nfs_ask::script_fault::ScriptFault;
 use nfs_command_line::invocation::Replay;
 use nfs_load::loaded::Loaded;
 use nfs_named::named::NamedTree;
-use nfs_recovery::journal_work::rerun_journal;
 use nfs_replay::replay::replay;
 use nfs_replay::shown::Shown;
 use nfs_saving::copies::Copies;
@@ -28,7 +27,7 @@ use std::time::Clock;
 const RUN_BYTES: usize = 65_536;
 
 /// Runs a script over a description, and saves the tree as it then is where the words ask for it; or plays it against
-/// a running server (`replay_live`), or runs a journal again (`rerun_journal`). The faults of `Copies::of`,
+/// a running server (`replay_live`). The faults of `Copies::of`,
 /// `NamedTree::load` and `Copies::save_last`; `CannotRead` and `TooLong` where the script can't be read, `Script` with
 /// its first faulty line, `Write` and `Closed` where the output fails, `Memory`.
 pub fn replay_files<R>(rt: &R, alloc: Global, words: Replay<'_, '_>) -> Result<ExitCode, Diagnostic>
@@ -42,11 +41,8 @@ where
         + Net<Stream = TcpStream>
         + Clock,
 {
-    if let Some(port) = words.port() {
-        return replay_live(rt, alloc, words, port);
-    }
-    match words.journal() {
-        Some(name) => rerun_journal(rt, alloc, words.tree(), name),
+    match words.port() {
+        Some(port) => replay_live(rt, alloc, words, port),
         None => replay_and_save(rt, alloc, words),
     }
 }

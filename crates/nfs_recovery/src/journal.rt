@@ -41,13 +41,7 @@ pub(crate) fn open_journal<'r, R: Files<File = File> + Clock + Eprint>(
     cache: usize,
 ) -> Result<Journaled<'r, R>, Fault> {
     let mut file = JournalFile::open(rt, alloc, name)?;
-    file.len()?;
-    let text = LifeText::of(alloc, &life.loaded)?;
-    let server = match file.head()? {
-        Some(head) => go_on(rt, alloc, &mut file, head, life, &text, cache)?,
-        None => begin(rt, alloc, &mut file, life, &text, cache)?,
-    };
-    file.put_description(rt, &text)?;
+    let server = journaled_server(rt, alloc, &mut file, life, cache)?;
     let syncing = match sync {
         JournalSync::Round => Syncing::Each,
         JournalSync::Never => Syncing::Never,
@@ -56,6 +50,24 @@ pub(crate) fn open_journal<'r, R: Files<File = File> + Clock + Eprint>(
         server,
         journal: file.into_journal(rt, syncing)?,
     })
+}
+
+// The server of a life with this journal, which has its description then.
+fn journaled_server<R: Files + Clock + Eprint>(
+    rt: &R,
+    alloc: Global,
+    file: &mut JournalFile<'_, File>,
+    life: Life,
+    cache: usize,
+) -> Result<Server, Fault> {
+    file.len()?;
+    let text = LifeText::of(alloc, &life.loaded)?;
+    let server = match file.head()? {
+        Some(head) => go_on(rt, alloc, file, head, life, &text, cache)?,
+        None => begin(rt, alloc, file, life, &text, cache)?,
+    };
+    file.put_description(rt, &text)?;
+    Ok(server)
 }
 
 // A server whose life begins, with its journal.
