@@ -1,0 +1,38 @@
+/* The baselines of pages of directories as a server has to write them, which finds the file of each entry by its slot: the same
+ * bytes as of pages.c.
+ */
+#include "answer.h"
+
+enum { NAMES = 1000, NAME = 4, ROUNDS = 20000, RUNS = 5 };
+
+static unsigned char out[MAX_LIST];
+
+static void measure(const char *name, size_t room, int plus) {
+    uint64_t least = UINT64_MAX;
+    size_t bytes = 0;
+    for (int run = 0; run < RUNS; run++) {
+        uint64_t start = now();
+        for (int round = 0; round < ROUNDS; round++)
+            bytes = (size_t)(put_entries(out, room - PAGE_HEAD, &files[0], 0, plus) - out);
+        uint64_t time = now() - start;
+        least = time < least ? time : least;
+    }
+    printf("%s %.1f %zu\n", name, (double)least / ROUNDS, bytes);
+}
+
+int main(void) {
+    s = (struct server){.tagged = 1};
+    s.files = files = some(NAMES + 1, sizeof *files);
+    file(0, 2, 0755, 0, 0, 0);
+    for (uint32_t i = 0; i < NAMES; i++) {
+        unsigned char name[NAME];
+        for (int letter = 0; letter < NAME; letter++)
+            name[letter] = (unsigned char)('a' + (i >> (12 - 4 * letter) & 15));
+        file(1 + i, 1, 0755, 0, 0, 0);
+        enter(&files[0], (struct bytes){name, NAME}, &files[1 + i]);
+    }
+    s.count = NAMES + 1;
+    measure("found-1000", MAX_LIST, 0);
+    measure("found-plus-200", PAGE_HEAD + 200 * (28 + 4 + 84 + 4 + 4 + HANDLE), 1);
+    return 0;
+}
