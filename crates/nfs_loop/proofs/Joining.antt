@@ -22,14 +22,14 @@ module _ {L : Type 0} (outgoing incoming : L → Option (List ℕ)) where
   joined_by reported reported_now reported_then key peer old new joined now report more (inl not) server lines =
       nothing outgoing incoming reported reported_then server old new joined now lines not.0 not.1 (accounts_then reported reported_now reported_then [] [] (accounts_one reported reported_now (came key peer) report) more)
   joined_by reported reported_now reported_then key peer old new joined now report more (inr j) server lines = record {
-    changes = joins key now j.member.client.connection.addr ∷ [];
+    changes = joins key now j.member.client.value.connection.addr ∷ [];
     are_changes = (
       state (stage server old joined lines),
       refl,
       record {
-        client = j.member.client;
+        client = j.member.client.value;
         free = ap (option_map seat_of) j.free;
-        sits = ap (option_map seat_of) j.sits.changed ∙ ap (λ n. Some (record { number = n; client = j.member.client })) (sym j.joined_is);
+        sits = ap (option_map seat_of) j.sits.changed ∙ ap (λ n. Some (record { number = n; client = j.member.client.value })) (sym j.joined_is);
         begins = j.begins;
         addr_is = refl;
         number_is = j.joined_is ∙ j.number_is;
@@ -43,29 +43,29 @@ module _ {L : Type 0} (outgoing incoming : L → Option (List ℕ)) where
       },
     );
     shared_stays = refl;
-    such = (refl, accounts_then reported reported_now reported_then (joins key now j.member.client.connection.addr ∷ []) [] (tt, λ before e. (came key peer ∷ [], report before e, ([], [], record { peer = peer; addr_is = j.addr_is; reported = refl }, tt))) more);
+    such = (refl, accounts_then reported reported_now reported_then (joins key now j.member.client.value.connection.addr ∷ []) [] (tt, λ before e. (came key peer ∷ [], report before e, ([], [], record { peer = peer; addr_is = j.addr_is; reported = refl }, tt))) more);
   }
 
   -- one leaves that had no turn
   pub left_by : (reported reported_now : Option (List Report)) (server : Held) (key : ℕ) (member : Member L) (old new : Slab (Member L)) (joined : ℕ) (w v : Written) → get old key ≡ Some member → Updates old new key None → Accounts reported [] reported_now
-      → (by : End) × LeavesBy member.client by × Reported (end_text member.number member.client.calls by) w v
+      → (by : End) × LeavesBy member.client.value by × Reported (end_text member.number member.client.value.calls by) w v
       → Goes outgoing incoming (λ changes. WithoutTurns reported changes reported_now) (stage server old joined w) (stage server new joined v)
   left_by reported reported_now server key member old new joined w v was away accounts (by, ended, written_line) = record {
-    changes = leaves key member.number member.client.calls by ∷ [];
+    changes = leaves key member.number member.client.value.calls by ∷ [];
     are_changes = (
       state (stage server old joined w),
       refl,
       record {
-        client = member.client;
+        client = member.client.value;
         sat = ap (option_map seat_of) was;
         calls_are = refl;
         ended = ended;
         gone = ap (option_map seat_of) away.changed;
-        line = take written_line.n (end_text member.number member.client.calls by);
+        line = take written_line.n (end_text member.number member.client.value.calls by);
         part = (written_line.n, written_line.within, refl);
         whole = written_line.whole;
         lines_grow = written_line.lines_grow;
-        log_grows = subst (λ (s : Bool). Grows w.log (if s then take written_line.n (end_text member.number member.client.calls by) else []) v.log) written_line.shared_stays written_line.log_grows;
+        log_grows = subst (λ (s : Bool). Grows w.log (if s then take written_line.n (end_text member.number member.client.value.calls by) else []) v.log) written_line.shared_stays written_line.log_grows;
         log_stays = written_line.log_stays;
         others = λ other differ. ap (option_map seat_of) (away.others other differ);
         joined_stays = refl;
@@ -78,7 +78,7 @@ module _ {L : Type 0} (outgoing incoming : L → Option (List ℕ)) where
 
 -- a new member has joined
 pub joins_as : {L : Type 0} (key : ℕ) (peer : IpAddr) (old new : Slab (Member L)) (joined : ℕ) (member : Member L) (addr : Addr) → key ≡ old.vacant_key → get old old.vacant_key ≡ None → Updates old new old.vacant_key (Some member)
-    → IsAtStart addr member.client.connection → member.client.chunk ≡ [] → member.client.end ≡ None → IsAddrOf peer (Some addr) → member.number ≡ joined + 1 → JoinsOrNot key peer old joined new member.number
+    → IsAtStart addr member.client.value.connection → member.client.value.chunk ≡ [] → member.client.value.end ≡ None → IsAddrOf peer (Some addr) → member.number ≡ joined + 1 → JoinsOrNot key peer old joined new member.number
 joins_as key peer old new joined member addr at free sits start nothing_came goes_on from number = inr (record {
   member = member;
   free = ap (get old) at ∙ free;

@@ -46,13 +46,17 @@ nobody_turns {L} outgoing incoming reports holds reported watches journal server
 
 -- a member as it comes back from its turn
 abbrev pub with_client : {L : Type 0} → Member L → Standing L → Member L
-with_client m now = record { client = now; number = m.number; peer = m.peer; addr = m.addr; since = m.since }
+with_client m now = record { client = record m.client { value = now }; number = m.number; peer = m.peer; addr = m.addr; since = m.since }
 
 module _ {L : Type 0} (outgoing incoming : L → Option (List ℕ)) (reports : L → ℕ → Came → L → Type 0) (holds : Bool) (moment : Moment) (old mid : Waiting (Member L)) (key : ℕ) (member : Member L) (c : IsCalled old mid key member)
+    (was : Standing L) (is : was ≡ member.client.value)
     (server served : Held) (joined : ℕ) (w v : Written) (stays : StaysFailed w.broken w.log v.broken v.log) (shared : v.shared ≡ w.shared) (lines : v.lines ≡ w.lines) (complete : v.complete ≡ w.complete)
     (reported first reported_now : Option (List Report)) (before : Accounts reported [] first) (report : IsReported first (at moment) reported_now)
-    (now : Standing L) (turn : Turns outgoing incoming moment member.client now server served (device w.log v.log)) (held_back : (notes : List ℕ) → server.notes ≡ Some notes → SendsPending outgoing member.client now)
-    (journal : Option Journal) (beside : is_some journal ≡ true → SendsPending outgoing member.client now) where
+    (now : Standing L) (turn : Turns outgoing incoming moment was now server served (device w.log v.log)) (held_back : (notes : List ℕ) → server.notes ≡ Some notes → SendsPending outgoing was now)
+    (journal : Option Journal) (beside : is_some journal ≡ true → SendsPending outgoing was now) where
+  sat : seats old.0 key ≡ Some (record { number = member.number; client = was })
+  sat = ap (option_map seat_of) c.was ∙ ap (λ (client : Standing L). Some (record { number = member.number; client = client })) (sym is)
+
   turn_reported : Accounts reported (turns key moment turn.0 ∷ []) reported_now
   turn_reported = accounts_then reported first reported_now [] (turns key moment turn.0 ∷ []) before (tt, λ news e. (at moment ∷ [], report news e, ([], [], refl, tt)))
 
@@ -63,9 +67,9 @@ module _ {L : Type 0} (outgoing incoming : L → Option (List ℕ)) (reports : L
   turn_back : (new : Waiting (Member L)) → Updates mid.0 new.0 key (Some (with_client member now)) → HasTurn outgoing incoming key moment turn.0 (state (stage server old.0 joined w)) (state (stage served new.0 joined v))
   turn_back new back = record {
     number = member.number;
-    was = member.client;
+    was = was;
     now = now;
-    sat = ap (option_map seat_of) c.was;
+    sat = sat;
     sits = ap (option_map seat_of) back.changed;
     turn = turn.1;
     held_back = held_back;
@@ -95,7 +99,7 @@ module _ {L : Type 0} (outgoing incoming : L → Option (List ℕ)) (reports : L
         state (stage server old.0 joined w),
         refl,
         turn_back new back,
-        (room, holds_back outgoing incoming journal key member.number member.client now (state (stage server old.0 joined w)) (state (stage served new.0 joined v)) beside (ap (option_map seat_of) c.was) (ap (option_map seat_of) back.changed)),
+        (room, holds_back outgoing incoming journal key member.number was now (state (stage server old.0 joined w)) (state (stage served new.0 joined v)) beside sat (ap (option_map seat_of) back.changed)),
       ),
     );
   }
@@ -116,9 +120,9 @@ module _ {L : Type 0} (outgoing incoming : L → Option (List ℕ)) (reports : L
   turn_away : HasTurn outgoing incoming key moment turn.0 (state (stage server old.0 joined w)) between
   turn_away = record {
     number = member.number;
-    was = member.client;
+    was = was;
     now = now;
-    sat = ap (option_map seat_of) c.was;
+    sat = sat;
     sits = there;
     turn = turn.1;
     held_back = held_back;
@@ -161,7 +165,7 @@ module _ {L : Type 0} (outgoing incoming : L → Option (List ℕ)) (reports : L
       refl,
       λ room. (
         between,
-        (state (stage server old.0 joined w), refl, turn_away, (room, holds_back outgoing incoming journal key member.number member.client now (state (stage server old.0 joined w)) between beside (ap (option_map seat_of) c.was) there)),
+        (state (stage server old.0 joined w), refl, turn_away, (room, holds_back outgoing incoming journal key member.number was now (state (stage server old.0 joined w)) between beside sat there)),
         leaves_then u by ended written_line,
         tt,
       ),

@@ -26,7 +26,7 @@ use Rattle.nfs_xdr.specs.Known.{StaysFailed}
 use Rattle.nfs_xdr.specs.declared.link.Came.{Came}
 
 abbrev pub seat_of : {L : Type 0} → Member L → Seat L
-seat_of m = record { number = m.number; client = m.client }
+seat_of m = record { number = m.number; client = m.client.value }
 
 abbrev pub seats : {L : Type 0} → Slab (Member L) → ℕ → Option (Seat L)
 seats members key = option_map seat_of (get members key)
@@ -149,8 +149,8 @@ pub record HasJoined {L : Type 0} (key : ℕ) (peer : IpAddr) (old : Slab (Membe
   pub member : Member L
   pub free : get old key ≡ None
   pub sits : Updates old new key (Some member)
-  pub begins : IsNew member.client
-  pub addr_is : IsAddrOf peer (Some member.client.connection.addr)
+  pub begins : IsNew member.client.value
+  pub addr_is : IsAddrOf peer (Some member.client.value.connection.addr)
   pub number_is : member.number ≡ joined + 1
   pub joined_is : now ≡ member.number
 

@@ -22,6 +22,7 @@ use nfs_xdr::link::Link;
 
 impl Housekeeping {
     /// Reports how the connection of a client ended that has left, and has one that waits accepted.
+    #[cold]
     pub(crate) fn leave<L: Link + Drop, R: Log, N: Network<Stream = L>, A: LineOut, C: LineOut>(
         &mut self,
         rt: &R,
@@ -31,14 +32,14 @@ impl Housekeeping {
         moment: Moment,
         end: End,
     )
-        requires ended { LeavesBy member.client end }
+        requires ended { LeavesBy member.client.value end }
         ensures reported { Accounts (N.reported net.old) [] (N.reported net.new) }
         ensures watches { self.new.watches ≡ self.old.watches }
         ensures looked { self.new.looked ≡ self.old.looked }
         ensures limits { self.new.limits ≡ self.old.limits }
         ensures refused { IsRefusedBy (is_audit_fault end) member.addr (N.reported net.old) (N.reported net.new) self.old.refused_peers self.new.refused_peers }
-        ensures lines { (by : End) × LeavesBy member.client by
-            × Reported (end_text member.number member.client.calls by) (written A.taken C.taken lines.old) (written A.taken C.taken lines.new) }
+        ensures lines { (by : End) × LeavesBy member.client.value by
+            × Reported (end_text member.number member.client.value.calls by) (written A.taken C.taken lines.old) (written A.taken C.taken lines.new) }
     {
         self.refuse_where_denied(net, member.addr, end);
         let end = end_of(net, &member, end);
@@ -99,8 +100,8 @@ fn say<R: Log, L>(rt: &R, member: &Member<L>, end: End) {
 // How a connection ended. One that its peer has reset with nothing on its way has ended as one that it
 // closed.
 fn end_of<L: Link, N: Network<Stream = L>>(net: &N, member: &Member<L>, end: End) -> End
-    requires { LeavesBy member.now.client end }
-    ensures { LeavesBy member.now.client result }
+    requires { LeavesBy member.now.client.value end }
+    ensures { LeavesBy member.now.client.value result }
 {
     let is_reset = end == End::Fault(ServeFault::ReadFault) && net.was_reset(member.client.link());
     if is_reset && member.client.is_at_rest() {

@@ -236,6 +236,9 @@ impl Housekeeping {
         lines.pass_on();
         let seconds = net.millis() / 1_000;
         self.lines_reported.report(rt, lines, seconds);
+        if self.is_quiet(seconds) {
+            return;
+        }
         self.note_calls(server, seconds);
         self.save(server, net, attendant, seconds);
         let standing = Standing {
@@ -249,6 +252,12 @@ impl Housekeeping {
         self.is_woken = false;
         self.asked = seconds;
         self.look_at_end(rt, server, net, attendant, is_told, standing);
+    }
+
+    // Whether nothing else is to be done in this round: the second is that of the last one, nobody asks for anything, and
+    // the service is not told to end.
+    fn is_quiet(&self, seconds: u64) -> bool {
+        seconds == self.asked && !self.is_woken && !self.is_closed
     }
 
     // Notes how many calls had come when this second began.
@@ -270,6 +279,7 @@ impl Housekeeping {
     }
 
     // Has whoever controls the service answered. Whether the service is to end.
+    #[cold]
     fn ask<L: Link + Drop, A: LineOut, C: LineOut, T: Attendant>(
         &self,
         server: &mut Server,
@@ -297,6 +307,7 @@ impl Housekeeping {
     }
 
     // How many clients are busy, once the service is told to end.
+    #[cold]
     fn count_busy<L: Link + Drop>(&self, clients: &Clients<Member<L>>, seconds: u64) -> usize
         ensures { self.now.until ≡ None → result ≡ slab_len clients.now.0 }
     {
@@ -316,7 +327,7 @@ impl Housekeeping {
 
     // Whether the client of a key has something on its way, or was heard of lately.
     fn is_busy<L: Link + Drop>(&self, member: &Member<L>, key: usize, seconds: u64) -> bool
-        ensures rest { result ≡ false → IsAtRest member.now.client }
+        ensures rest { result ≡ false → IsAtRest member.now.client.value }
         ensures quiet { result ≡ false → heard_at self.now.watches key + QUIET_SECONDS ≤ seconds }
     {
         !member.client.is_at_rest()
@@ -325,6 +336,7 @@ impl Housekeeping {
 
     // Has a service end that was told to, once no client is busy, or after 10 seconds, if its tree is saved then. Where it
     // can't be, the service goes on as if it had not been told.
+    #[cold]
     fn look_at_end<R: Log, N: Network, T: Attendant>(
         &mut self,
         rt: &R,
@@ -415,6 +427,7 @@ impl Housekeeping {
     }
 
     // Has the tree saved where it is time, so many seconds after the service began.
+    #[cold]
     fn save<N: Network, T: Attendant>(
         &mut self,
         server: &Server,
@@ -433,6 +446,7 @@ impl Housekeeping {
         {
             attendant.save(server);
             self.is_touched = false;
+            net.read_clock();
             self.saved = net.millis() / 1_000;
         }
     }

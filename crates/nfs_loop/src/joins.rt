@@ -1,10 +1,11 @@
 //! How clients join.
-ghost use Rattle.std.specs.Prelude.{◌≡◌, ◌+◌, ◌<◌, ◌^◌, [], OnOk};
+ghost use Rattle.std.specs.Prelude.{◌≡◌, ◌+◌, ◌<◌, ◌^◌, [], None, IfOk, OnOk};
 ghost use Rattle.std.specs.Net.Socket.{socket_ip};
 ghost use Rattle.nfs_loop.specs.Stages.{BeginsToWatch, Goes, JoinsOrNot, WithoutTurns, stage};
 ghost use Rattle.nfs_loop.specs.Reports.{Accounts, CameFrom, IsReported, ReportsMore, came};
 ghost use Rattle.nfs_loop.specs.Watching.{AllBegin, AllStay, AreWatched};
 ghost use Rattle.nfs_lines.specs.Written.{Written};
+ghost use Rattle.nfs_server.specs.Connections.{IsAtStart};
 ghost use Rattle.nfs_server.specs.Fits.{Held};
 
 use crate::addresses::addr_of;
@@ -16,6 +17,7 @@ use log::{Log, info, warn};
 use nfs_exports::addr::Addr;
 use nfs_serving::client::Client;
 use nfs_xdr::link::Link;
+use std::alloc::{AllocError, Global};
 use std::io;
 use std::net::SocketAddr;
 use thiserror::Error;
@@ -31,6 +33,7 @@ enum Refusal {
 
 impl<L: Link + Drop> Service<L> {
     /// Accepts the connections that wait.
+    #[inline(always)]
     pub(crate) fn accept_some<R: Log, N: Network<Stream = L>>(&mut self, rt: &R, net: &mut N)
         requires watched { AreWatched self.old.clients.0 self.old.housekeeping.watches }
         ensures goes { (server : Held) → (lines : Written) → Goes L.outgoing L.incoming
@@ -52,6 +55,7 @@ impl<L: Link + Drop> Service<L> {
     }
 
     // Accepts a connection, if one waits and there may be more.
+    #[cold]
     fn accept<R: Log, N: Network<Stream = L>>(&mut self, rt: &R, net: &mut N)
         requires watched { AreWatched self.old.clients.0 self.old.housekeeping.watches }
         ensures goes { (server : Held) → (lines : Written) → Goes L.outgoing L.incoming
@@ -148,9 +152,11 @@ impl<L: Link + Drop> Service<L> {
         if self.housekeeping.watches.make_room(key).is_err() {
             return Err(Refusal::Memory);
         }
+        let Ok(client) = place(self.alloc, addr, stream) else {
+            return Err(Refusal::Memory);
+        };
         let millis = net.millis();
         let number = self.joined + 1;
-        let client = Client::new(self.alloc, addr, stream);
         let member = Member {
             client,
             number,
@@ -166,6 +172,18 @@ impl<L: Link + Drop> Service<L> {
             }
             Err(_) => Err(Refusal::Memory),
         }
+    }
+}
+
+// A new client at an address, in a place of its own. Refused where there is no memory.
+fn place<L: Link + Drop>(alloc: Global, addr: Addr, stream: L) -> Result<Box<Client<L>>, AllocError>
+    ensures start { IfOk result (λ client. IsAtStart addr client.value.connection) }
+    ensures chunk { IfOk result (λ client. client.value.chunk ≡ []) }
+    ensures end { IfOk result (λ client. client.value.end ≡ None) }
+{
+    match Box::new(alloc, Client::new(alloc, addr, stream)) {
+        Ok(client) => Ok(client),
+        Err(_) => Err(AllocError),
     }
 }
 

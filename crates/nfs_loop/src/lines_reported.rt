@@ -35,6 +35,21 @@ impl LinesReported {
         lines: &Lines<'_, A, C>,
         seconds: u64,
     ) {
+        if lines.denied.has_failed()
+            || lines.connections_have_failed()
+            || lines.denied.counted() > self.counted
+        {
+            self.say(rt, lines, seconds);
+        }
+    }
+
+    #[cold]
+    fn say<R: Log, A: LineOut, C: LineOut>(
+        &mut self,
+        rt: &R,
+        lines: &Lines<'_, A, C>,
+        seconds: u64,
+    ) {
         if lines.denied.has_failed() && !self.audit {
             self.audit = true;
             warn!(rt; "the lines of denied calls can no longer be written: make room, or restart their reader, and then restart the server");

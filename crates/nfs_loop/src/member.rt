@@ -7,8 +7,8 @@ use std::net::SocketAddr;
 /// A client, its connection and where it comes from.
 #[derive(Drop)]
 pub struct Member<L> {
-    /// The client.
-    pub client: Client<L>,
+    /// The client, in its own place, since members move at each turn.
+    pub client: Box<Client<L>>,
     /// The number of its connection, from 1.
     pub number: u64,
     /// Its peer.

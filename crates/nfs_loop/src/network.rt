@@ -79,10 +79,11 @@ pub trait Network {
     fn now(&mut self) -> Moment
         ensures { IsReported (reported self.old) (at result) (reported self.new) };
 
-    /// How many milliseconds the service has run.
+    /// How many milliseconds the service had run when the clock was read last: at the end of a wait, or since.
     fn millis(&mut self) -> u64
         ensures { IsReported (reported self.old) (since result) (reported self.new) };
 
-    /// How many microseconds have passed since the milliseconds were last asked for. They are only measured.
-    fn micros_since(&self) -> u64;
+    /// Reads the clock: how many microseconds have passed since it was read last. They are only measured.
+    fn read_clock(&mut self) -> u64
+        ensures { reported self.new ≡ reported self.old };
 }

@@ -108,6 +108,7 @@ impl<L: Link + Drop> Service<L> {
     }
 
     // The same of the client of a key.
+    #[cold]
     fn release_one(&mut self, key: usize, is_full: bool, now: u64)
         requires watched { AreWatched self.old.clients.0 self.old.housekeeping.watches }
         ensures members { self.new.clients.0 ≡ self.old.clients.0 }
@@ -198,7 +199,7 @@ impl<L: Link + Drop> Service<L> {
         let turn = member
             .client
             .turn(server, &mut self.room, moment, &mut lines.denied, holds);
-        self.housekeeping.turn_times.add(net.micros_since());
+        self.housekeeping.turn_times.add(net.read_clock());
         let is_heard = is_heard(turn);
         self.housekeeping.is_touched |= is_heard;
         self.housekeeping

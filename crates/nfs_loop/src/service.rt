@@ -186,6 +186,7 @@ impl<L: Link + Drop> Service<L> {
     }
 
     // Passes on the lines that are left, as long as somebody may read them.
+    #[cold]
     fn finish<N: Network<Stream = L>, A: LineOut, C: LineOut>(
         &self,
         net: &mut N,

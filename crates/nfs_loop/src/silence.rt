@@ -50,6 +50,7 @@ impl<L: Link + Drop> Service<L> {
 
     // Ends the connection of a key's client where nothing was heard of it since then, and it could have
     // been: it doesn't wait for a turn, and is not kept from one.
+    #[cold]
     fn end_where_silent<R: Log, N: Network<Stream = L>, A: LineOut, C: LineOut>(
         &mut self,
         rt: &R,

@@ -18,6 +18,7 @@ pub struct Denial {
 
 impl Denial {
     /// A rule of the handle fails.
+    #[cold]
     pub(crate) fn of_handle(rule: Rule) -> Denial
         ensures { result ≡ record { rule = rule; uid = None; shown = None } }
     {
@@ -29,6 +30,7 @@ impl Denial {
     }
 
     /// A rule after those of the handle fails.
+    #[cold]
     pub(crate) fn of_rule(subject: &Subject<'_>, rule: Rule) -> Denial
         ensures { result ≡ record { rule = rule; uid = Some subject.now.ids.uid; shown = Some subject.now.file } }
     {
@@ -55,6 +57,7 @@ pub struct PairDenial {
 
 impl PairDenial {
     /// A rule after those of the handles fails.
+    #[cold]
     pub(crate) fn of_rule(one: &Subject<'_>, two: &Subject<'_>, rule: Rule) -> PairDenial
         ensures { result ≡ record { rule = rule; uid = Some one.now.ids.uid; one = Some one.now.file; two = Some two.now.file } }
     {

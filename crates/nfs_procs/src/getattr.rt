@@ -48,6 +48,7 @@ fn write_granted(out: &mut Output, file: &Fattr)
     write_fattr(out, file);
 }
 
+#[cold]
 fn write_denied(out: &mut Output, rule: Rule)
     requires { status_size ≤ out.old.room }
     ensures { AppendsAnswer (answer.Getattr (Err (record { status = status_of rule; shown = tt }))) out.old out.new }

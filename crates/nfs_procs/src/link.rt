@@ -70,6 +70,7 @@ fn decide(
     }
 }
 
+#[cold]
 fn write_denied(out: &mut Output, denial: &PairDenial) -> Done
     requires { largest_of proc.Link ≤ out.old.room }
     ensures text { Appends (to_be_bytes w32 (status_of denial.now.rule) ++ linked_text

@@ -98,6 +98,7 @@ fn number_of(file: &Option<FileView<'_>>) -> Option<Number>
     }
 }
 
+#[cold]
 fn write_denied(out: &mut Output, denial: &PairDenial) -> Done
     requires { largest_of proc.Rename ≤ out.old.room }
     ensures text { Appends (to_be_bytes w32 (status_of denial.now.rule) ++ renamed_text

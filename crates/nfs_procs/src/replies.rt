@@ -46,6 +46,7 @@ pub(crate) fn verifier_of(tree: &Tree) -> u64
 }
 
 /// The answer of a denied call that shows the file of its handle before and after.
+#[cold]
 pub(crate) fn write_denied_change(out: &mut Output, denial: &Denial) -> Done
     requires { status_size + change_size ≤ out.old.room }
     ensures text { Appends (to_be_bytes w32 (status_of denial.now.rule) ++ wcc_text (doing.no_change denial.now.shown)) out.old out.new }
@@ -59,6 +60,7 @@ pub(crate) fn write_denied_change(out: &mut Output, denial: &Denial) -> Done
 }
 
 /// The answer of a denied call that shows the attributes of the file of its handle.
+#[cold]
 pub(crate) fn write_denied_attributes(out: &mut Output, denial: &Denial) -> Done
     requires { status_size + post_op_attributes_size ≤ out.old.room }
     ensures text { Appends (to_be_bytes w32 (status_of denial.now.rule) ++ post_op_attr_text denial.now.shown) out.old out.new }

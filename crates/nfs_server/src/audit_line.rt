@@ -39,6 +39,7 @@ pub struct AuditLine {
 
 impl AuditLine {
     /// The line of a call from this address.
+    #[cold]
     pub(crate) fn of(addr: Addr, head: &CallHead<'_>, reason: DenialReason) -> AuditLine
         ensures { result ≡ line_of addr (call_of head.now) reason }
     {

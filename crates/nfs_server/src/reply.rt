@@ -12,6 +12,7 @@ use nfs_xdr::output::Output;
 use std::alloc::AllocError;
 
 /// The reply to a call that fails a rule of RPC.
+#[cold]
 pub(crate) fn refuse(out: &mut Output, rule: RpcRule, xid: u32)
     requires { HasReplyRoom out.old }
     ensures adds { Adds out.old out.new }
@@ -41,6 +42,7 @@ pub(crate) fn succeed(out: &mut Output, xid: u32)
 
 /// The reply to a call for which the allocator refused memory, in the place of what stands from `start`
 /// on. It takes what the allocator said, so that no other call can get this reply.
+#[cold]
 pub(crate) fn give_up(out: &mut Output, start: usize, xid: u32, _refused: AllocError)
     requires start { start ≤ length out.old.bytes }
     requires room { room_bytes + start ≤ 4 + length out.old.bytes + out.old.room }

@@ -534,6 +534,7 @@ impl Server {
     // The reply to a call of MOUNT other than NULL, and its line where it is denied; and whether the call
     // is noted. Out of line, so that calls of NFS pay nothing for it.
     #[inline(never)]
+    #[cold]
     fn answer_mount(
         &mut self,
         procedure: MountProcedure,
@@ -570,6 +571,7 @@ impl Server {
     // The reply to a call that fails a rule of RPC, and its line. Out of line, so that other calls pay
     // nothing for it.
     #[inline(never)]
+    #[cold]
     fn deny(&mut self, head: &CallHead<'_>, event: Event<'_>, rule: RpcRule, out: &mut Output)
         requires { HasReplyRoom out.old }
         ensures adds { Adds out.old out.new }
@@ -616,6 +618,7 @@ fn forget(line: &mut Option<AuditLine>)
 }
 
 // The cached reply at the front once more.
+#[cold]
 fn give_again(kept: &ReplyCache, out: &mut Output)
     requires { HasReplyRoom out.old }
     ensures adds { Adds out.old out.new }

@@ -80,6 +80,9 @@ impl<L: Link> Channel<L> {
         ensures outgoing { OnErr result (L.outgoing self.new.link ≡ L.outgoing self.old.link) }
         ensures pending { OnErr result (self.new.pending ≡ self.old.pending) }
     {
+        if self.pending.is_empty() && !self.ended {
+            return Ok(());
+        }
         let n = send_some(&mut self.link, &mut self.ended, self.pending.bytes())?;
         count(&mut self.traffic.sent, n);
         self.pending.take(n);

@@ -365,6 +365,7 @@ impl<L: Link> Client<L> {
     }
 
     // The connection ends so.
+    #[cold]
     fn ends(&mut self, end: End) -> Turn
         ensures turn { result ≡ Turn.Ended end }
         ensures end { self.new.end ≡ Some end }
@@ -379,6 +380,7 @@ impl<L: Link> Client<L> {
 }
 
 // The fault that a connection ends with. Where replies don't gather, there is no room for them.
+#[cold]
 fn fault_of(fault: SessionFault) -> ServeFault
     requires { (audit_failed : Bool) × (replies_failed : Bool) × EndsWith audit_failed replies_failed fault }
     ensures { IsEndedBy fault result }

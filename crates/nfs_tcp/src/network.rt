@@ -12,7 +12,6 @@ use nfs_attrs::moment::Moment;
 use nfs_loop::network::{Accepted, EVENTS, Network, Ready};
 use nfs_server::moments::Moments;
 use std::alloc::Global;
-use std::collections::VecDeque;
 use std::io::{self, ErrorKind};
 use std::net::{Net, SocketAddr};
 use std::time::{Clock, Duration, Instant};
@@ -24,12 +23,12 @@ pub struct TcpNetwork<'a, R> {
     alloc: Global,
     clock: SystemClock<'a, R>,
     began: Instant,
-    // How long after that the milliseconds were last asked for.
-    asked: Duration,
+    // How many microseconds after that the clock was read last.
+    micros: u64,
     poll: Poll,
     events: Events,
-    // Those of the events that were not handed out.
-    ready: VecDeque<Ready>,
+    // How many of the events were handed out.
+    handed_out: usize,
     // The next connection is that of the first one that has any.
     listeners: Vec<TcpListener>,
     // Where they listen.
@@ -54,10 +53,10 @@ impl<'a, R: Net + Clock + Log> TcpNetwork<'a, R> {
             alloc,
             clock: SystemClock::new(rt),
             began: Instant::now(rt)?,
-            asked: Duration::ZERO,
+            micros: 0,
             poll,
             events: Events::with_capacity(alloc, EVENTS as usize)?,
-            ready: VecDeque::with_capacity(alloc, EVENTS as usize)?,
+            handed_out: 0,
             listeners,
             addresses,
         })
@@ -103,25 +102,25 @@ impl<R: Net + Clock + Log> Network for TcpNetwork<'_, R> {
     ghost reported = { λ n. None };
 
     fn wait(&mut self, timeout: Option<Duration>) -> io::Result<()> {
-        match self.poll.poll(&mut self.events, timeout) {
-            Err(error) if error.kind() != ErrorKind::Interrupted => return Err(error),
-            _ => {}
+        let waited = self.poll.poll(&mut self.events, timeout);
+        self.handed_out = 0;
+        self.read_clock();
+        match waited {
+            Err(error) if error.kind() != ErrorKind::Interrupted => Err(error),
+            _ => Ok(()),
         }
-        for event in self.events.iter() {
-            let ready = match key_of(event.token()) {
-                None => Ready::Listener,
-                Some(key) => Ready::Client {
-                    key,
-                    is_closing: event.is_read_closed() || event.is_error(),
-                },
-            };
-            self.ready.push_back(ready)?;
-        }
-        Ok(())
     }
 
     fn ready(&mut self) -> Option<Ready> {
-        self.ready.pop_front()
+        let event = *self.events.iter().as_slice().get(self.handed_out)?;
+        self.handed_out += 1;
+        Some(match key_of(event.token()) {
+            None => Ready::Listener,
+            Some(key) => Ready::Client {
+                key,
+                is_closing: event.is_read_closed() || event.is_error(),
+            },
+        })
     }
 
     fn accept(&mut self, key: usize) -> Accepted<Socket> {
@@ -163,23 +162,23 @@ impl<R: Net + Clock + Log> Network for TcpNetwork<'_, R> {
     }
 
     fn millis(&mut self) -> u64 {
-        match self.began.elapsed(self.rt) {
-            Ok(elapsed) => {
-                self.asked = elapsed;
-                u64::try_from(elapsed.as_millis()).unwrap_or(u64::MAX)
-            }
-            Err(_) => 0,
-        }
+        self.micros / 1_000
     }
 
-    fn micros_since(&self) -> u64 {
-        match self.began.elapsed(self.rt) {
-            Ok(elapsed) => {
-                u64::try_from(elapsed.saturating_sub(self.asked).as_micros()).unwrap_or(u64::MAX)
-            }
-            Err(_) => 0,
+    fn read_clock(&mut self) -> u64 {
+        let before = self.micros;
+        if let Ok(elapsed) = self.began.elapsed(self.rt) {
+            self.micros = micros_of(elapsed);
         }
+        self.micros.saturating_sub(before)
     }
+}
+
+// So much time in microseconds.
+fn micros_of(time: Duration) -> u64 {
+    time.as_secs()
+        .saturating_mul(1_000_000)
+        .saturating_add(u64::from(time.subsec_micros()))
 }
 
 // Where these listen.
