@@ -1,12 +1,12 @@
 /* The memory of 100,000 names in so many directories, in plain C with malloc, which holds what any directory has to that finds names
  * by an index and lists them by rising cookie: of each name a row (the name, its file and its place, 48 bytes, and its hash, 8) and a
- * place (its cookie and its row, 12); lists that double, and an index of groups of 12 names (64 bytes), of which seven in eight are
- * in use. links DIRECTORIES prints nothing; peak tells what it held.
+ * place (its cookie and its row, 12); lists that double, and an index of groups of 64 bytes, each for at most nine names on average.
+ * links DIRECTORIES prints nothing; peak tells what it held.
  */
 #include <stdlib.h>
 #include <string.h>
 
-enum { NAMES = 100000, ROW = 48, HASH = 8, PLACE = 12, GROUP = 64, GROUPED = 12 };
+enum { NAMES = 100000, ROW = 48, HASH = 8, PLACE = 12, GROUP = 64, GROUPED = 9 };
 
 struct list {
     unsigned char *at;
@@ -35,7 +35,7 @@ int main(int count, char **words) {
     for (size_t dir = 0; dir < directories; dir++) {
         struct list rows = {0}, hashes = {0}, places = {0}, index = {0};
         for (size_t name = 0; name < NAMES / directories; name++) {
-            if (name == index.room * GROUPED * 7 / 8)
+            if (name == index.room * GROUPED)
                 grow(&index);
             add(&rows, ROW), add(&hashes, HASH), add(&places, PLACE);
         }

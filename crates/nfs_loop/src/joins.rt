@@ -181,10 +181,7 @@ fn place<L: Link + Drop>(alloc: Global, addr: Addr, stream: L) -> Result<Box<Cli
     ensures chunk { IfOk result (λ client. client.value.chunk ≡ []) }
     ensures end { IfOk result (λ client. client.value.end ≡ None) }
 {
-    match Box::new(alloc, Client::new(alloc, addr, stream)) {
-        Ok(client) => Ok(client),
-        Err(_) => Err(AllocError),
-    }
+    Ok(Box::new(alloc, Client::new(alloc, addr, stream))?)
 }
 
 fn warn_of_none<R: Log>(rt: &R, error: &io::Error) {
