@@ -27,9 +27,6 @@ not_equal a b other = by_test (nat_eq a b) (λ y. absurd (other (eqb-true a b y)
 pub same_some : {X : Type 0} {x y : X} → Some x ≡ Some y → x ≡ y
 same_some e = cc
 
-pub same_tail : {X : Type 0} {x y : X} {xs ys : List X} → x ∷ xs ≡ y ∷ ys → xs ≡ ys
-same_tail e = cc
-
 pub true_and_false : {b : Bool} → b ≡ true → b ≡ false → ⊥
 true_and_false y n = cc
 

@@ -3,7 +3,7 @@ use Rattle.std.proofs.Common.{◌≡◌, ℕ, zero, suc, ◌<◌, ◌≤◌, ◌
 use Rattle.std.specs.Prelude.{Some, slice_get, slice_set}
 use Rattle.std.specs.List.{filter}
 use Rattle.std.specs.List.Sorted.{IsPartitionedBy}
-use Rattle.std.proofs.lemmas.Bool.{leb-true, le-leb, lt-ltb, le-ltb, ltb-true}
+use Rattle.std.proofs.lemmas.Bool.{leb-true, le-leb, lt-ltb, le-ltb}
 use Rattle.std.proofs.Math.Seq.{take-length}
 use Rattle.std.proofs.lemmas.List.{length-drop}
 use Rattle.nfs_entries.specs.Listing.{PlaceValue, Rises, led}
@@ -26,18 +26,12 @@ later low next (p ∷ ps) i zero d rises less within = absurd (omega (arith, les
 later low next (p ∷ ps) zero (suc j) d rises less within = let rest = from_low (suc p.cookie) next ps j d rises.1 (omega (arith, within)) in omega (arith, rest)
 later low next (p ∷ ps) (suc i) (suc j) d rises less within = later (suc p.cookie) next ps i j d rises.1 (omega (arith, less)) (omega (arith, within))
 
--- what is at or below a cookie comes first, and so does what is below one
+-- what is at or below a cookie comes first
 pub at_most_first : (cookie next : ℕ) (ps : List PlaceValue) → Rises 0 ps next → IsPartitionedBy (λ p. nat_le p.cookie cookie) ps
 at_most_first cookie next ps rises i j d before within below = by_number i j
     (λ same. subst (λ k. nat_le (get_or ps k d).cookie cookie ≡ true) (sym same) below)
     (λ other. let less = later 0 next ps i j d rises (omega (arith, before, other)) within in
     le-leb _ _ (omega (arith, less, leb-true _ _ below)))
-
-pub below_first : (cookie next : ℕ) (ps : List PlaceValue) → Rises 0 ps next → IsPartitionedBy (λ p. nat_lt p.cookie cookie) ps
-below_first cookie next ps rises i j d before within below = by_number i j
-    (λ same. subst (λ k. nat_lt (get_or ps k d).cookie cookie ≡ true) (sym same) below)
-    (λ other. let less = later 0 next ps i j d rises (omega (arith, before, other)) within in
-    lt-ltb _ _ (omega (arith, less, ltb-true _ _ below)))
 
 -- those from where cookies are above one
 pub after_point : (cookie : ℕ) (ps : List PlaceValue) (first : ℕ) → first ≤ length ps
