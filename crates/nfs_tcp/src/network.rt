@@ -101,6 +101,7 @@ impl<R: Net + Clock + Log> Network for TcpNetwork<'_, R> {
 
     ghost reported = { λ n. None };
 
+    #[inline(always)]
     fn wait(&mut self, timeout: Option<Duration>) -> io::Result<()> {
         let waited = self.poll.poll(&mut self.events, timeout);
         self.handed_out = 0;
@@ -165,6 +166,7 @@ impl<R: Net + Clock + Log> Network for TcpNetwork<'_, R> {
         self.micros / 1_000
     }
 
+    #[inline(always)]
     fn read_clock(&mut self) -> u64 {
         let before = self.micros;
         if let Ok(elapsed) = self.began.elapsed(self.rt) {
