@@ -16,7 +16,7 @@ struct limits {
 static struct file *files;
 static struct limits volumes[2];
 static struct server s;
-static const struct moment at_now = {100, 0};
+static struct moment at_now = {100, 0}; /* the moment of a call */
 
 struct call {
     uint32_t xid, proc, address, rule_uid;

@@ -1,6 +1,7 @@
 /* A server in plain C over epoll of the files of bench/names: what calls cost beyond an echo of their sizes, for any server that
- * reads, checks, performs and answers them, and caches the replies to those that change files (answer.h). The key in handles is that
- * of NFS3D_KEY. It prints its port. */
+ * reads, checks, performs and answers them, and caches the replies to those that change files (answer.h). It reads the clock for the
+ * times of files, for how long a turn takes, and for when a client was last heard. The key in handles is that of NFS3D_KEY. It
+ * prints its port. */
 #include "listening.h"
 #include "answer.h"
 #include "../clients/key.h"
@@ -8,9 +9,10 @@
 #include <unistd.h>
 
 /* LONGEST is more than the longest reply has, with its mark. */
-enum { PEERS = 8192, ROOM = 4 * (65536 + 1024), BATCH = 524288, LONGEST = 131072 + 1024, MOST = 200000 };
+enum { PEERS = 8192, ROOM = 4 * (65536 + 1024), BATCH = 524288, LONGEST = 131072 + 1024, MOST = 200000, BOUNDS = 6 };
 
 static size_t came[PEERS]; /* how many bytes have come that are not answered */
+uint64_t heard[PEERS], turns[BOUNDS + 1], together; /* in seconds; how many turns were within each bound; in microseconds */
 static unsigned char *held[PEERS], batch[BATCH];
 static const struct export exports[] = {{0, 0, 0, NOBODY, 0, 0}};
 
@@ -46,7 +48,7 @@ static void begin_peer(int peer) {
     if (!held[peer]) held[peer] = some(1, ROOM);
 }
 
-static void turn(int peer) {
+static void take(int peer) {
     for (;;) {
         ssize_t got = recv(peer, held[peer] + came[peer], ROOM - came[peer], 0);
         if (got < 0 && errno == EAGAIN) return;
@@ -65,6 +67,27 @@ static void turn(int peer) {
         memmove(held[peer], held[peer] + used, came[peer] = all - used);
         if (all < ROOM) return;
     }
+}
+
+static struct moment moment(void) {
+    struct timespec t;
+    clock_gettime(CLOCK_REALTIME, &t);
+    return (struct moment){(uint32_t)t.tv_sec, (uint32_t)t.tv_nsec};
+}
+
+static void count_turn(int peer, uint64_t began) {
+    static const uint64_t bounds[BOUNDS] = {10, 100, 1000, 10000, 100000, 1000000};
+    uint64_t ended = now(), micros = (ended - began) / 1000;
+    size_t place = 0;
+    while (place < BOUNDS && micros > bounds[place]) place++;
+    turns[place]++, together += micros, heard[peer] = ended / 1000000000;
+}
+
+static void turn(int peer) {
+    uint64_t began = now();
+    at_now = moment();
+    take(peer);
+    count_turn(peer, began);
 }
 
 static void begin_name(size_t dir, const char *name, size_t slot) {

@@ -60,6 +60,7 @@ impl NumberSlots {
     }
 
     /// The slot that a number leads to. Out of line, since a hint mostly spares the search.
+    #[cold]
     #[inline(never)]
     pub(crate) fn get(&self, number: u64) -> Option<usize>
         ensures { result ≡ lookup (nat_eq number) self.now.entries }

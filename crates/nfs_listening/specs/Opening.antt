@@ -1,6 +1,6 @@
 -- Which address the faults of a service name, and as what they are reported.
-use Rattle.std.specs.Prelude.{◌≡◌, ℕ, ◌<◌, List, Some, slice_get}
-use Rattle.std.specs.Net.Addr.{MatchIp, IsLoopbackV4, IsLoopbackV6}
+use Rattle.std.specs.Prelude.{◌≡◌, ℕ, ◌<◌, List, [], ◌∷◌, Some, slice_get}
+use Rattle.std.specs.Net.Addr.{MatchIp, IsLoopbackV4, IsLoopbackV6, ipv4_octets}
 use Rattle.std.specs.declared.alloc.AllocError.{AllocError}
 use Rattle.std.specs.declared.net.ip_addr.IpAddr.{IpAddr}
 use Rattle.std.specs.declared.net.socket_addr.SocketAddr.{SocketAddr}
@@ -12,6 +12,10 @@ use Rattle.nfs_tcp.specs.declared.service_fault.ServiceFault.TheVariants.{Networ
 -- an address that no other machine can reach
 abbrev pub IsLoopback : IpAddr → Type 0
 IsLoopback ip = MatchIp ip IsLoopbackV4 IsLoopbackV6
+
+-- 127.0.0.1
+abbrev pub IsLocalhost : IpAddr → Type 0
+IsLocalhost ip = MatchIp ip (λ a. ipv4_octets a ≡ 127 ∷ 0 ∷ 0 ∷ 1 ∷ []) (λ a. ⊥)
 
 -- the addresses of the first so many places are loopback addresses
 abbrev pub AreLoopbacks : List IpAddr → ℕ → Type 0

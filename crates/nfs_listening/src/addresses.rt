@@ -1,6 +1,6 @@
 //! The addresses at which a service listens, as the words ask for them.
 ghost use Rattle.std.specs.Prelude.{◌≡◌, ◌≢◌, ◌⊎◌, [], Some, length, slice_get};
-ghost use Rattle.nfs_listening.specs.Opening.{AreLoopbacks, IsFirstOpen};
+ghost use Rattle.nfs_listening.specs.Opening.{AreLoopbacks, IsFirstOpen, IsLocalhost};
 
 use nfs_command_line::serve::Serve;
 use nfs_lines::rule_names::first_unknown;
@@ -48,6 +48,7 @@ pub fn has_metrics_address<R: Eprint>(rt: &R, words: Serve<'_, '_>) -> bool {
 pub fn most_open(addresses: &[IpAddr]) -> IpAddr
     ensures reachable { IsFirstOpen addresses.now result ⊎ AreLoopbacks addresses.now (length addresses.now) }
     ensures first { AreLoopbacks addresses.now (length addresses.now) → addresses.now ≢ [] → slice_get addresses.now 0 ≡ Some result }
+    ensures none { addresses.now ≡ [] → IsLocalhost result }
 {
     for address in addresses {
         if !address.is_loopback() {

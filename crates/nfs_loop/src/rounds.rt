@@ -26,6 +26,7 @@ use nfs_xdr::link::Link;
 impl<L: Link + Drop> Service<L> {
     /// Has the clients wait for a turn of which the network reports something, after those that wait,
     /// unless they get none for now.
+    #[inline(always)]
     pub(crate) fn note<N: Network>(&mut self, net: &mut N)
         requires watched { AreWatched self.old.clients.0 self.old.housekeeping.watches }
         ensures members { self.new.clients.0 ≡ self.old.clients.0 }

@@ -246,6 +246,7 @@ fn figures_of<J: JournalOut>(journal: &Option<J>) -> Option<JournalFigures> {
 }
 
 /// Makes what the server noted last in the journal, if there is one. The faults of `Server::settle`.
+#[inline(always)]
 pub(crate) fn settle<J: JournalOut>(
     server: &mut Server,
     journal: &mut Option<J>,

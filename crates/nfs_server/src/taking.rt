@@ -339,6 +339,7 @@ fn answer_event<R: ReplyOut, A: AuditOut>(
 
 // Writes the audit line of the call of an event, if it has one, and then its reply, and answers the
 // number of the reply's bytes.
+#[inline(always)]
 fn write_answer<R: ReplyOut, A: AuditOut>(
     server: &Server,
     event: Event<'_>,

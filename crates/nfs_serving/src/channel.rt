@@ -93,6 +93,7 @@ impl<L: Link> Channel<L> {
     /// Sends these bytes, where nothing is pending, as much of them as the link takes now, and none where
     /// they are to be held. The others are pending then, all of them where the link is broken, in a list
     /// that has room for them, in whose stead another comes.
+    #[inline(always)]
     pub fn send(&mut self, bytes: &[u8], room: &mut Vec<u8>, holds: bool) -> Result<(), DeviceFault>
         requires pending { self.old.pending ≡ [] }
         requires room { length bytes.now ≤ vec_capacity room.old }
@@ -120,6 +121,7 @@ impl<L: Link> Channel<L> {
     }
 
     /// Receives what has come, as much as a chunk has room for and at most so many bytes.
+    #[inline(always)]
     pub fn receive(&mut self, chunk: &mut Buffer, most: usize) -> Result<Received, DeviceFault>
         requires { 0 < most }
         ensures came { IfOk result (λ received. Brings (L.incoming self.old.link) received.came chunk.new.bytes (L.incoming self.new.link)) }
@@ -146,6 +148,7 @@ fn count(total: &mut u64, n: usize) {
 }
 
 // Sends some first bytes of these, as many as the link takes now, unless it is broken.
+#[inline(always)]
 fn send_some<L: Link>(link: &mut L, ended: &mut bool, bytes: &[u8]) -> Result<usize, DeviceFault>
     ensures count { IfOk result (λ n. n ≤ length bytes.now) }
     ensures sent { IfOk result (λ n. Grows (L.outgoing link.old) (take n bytes.now) (L.outgoing link.new)) }

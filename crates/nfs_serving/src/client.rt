@@ -232,6 +232,7 @@ impl<L: Link> Client<L> {
 
     // Receives what has come, in place of what was taken: whether there may be more, which is so where
     // as much came as there was room for. Where nothing has come, what becomes of the turn.
+    #[inline(always)]
     fn receive(&mut self, room: &mut Vec<u8>) -> Result<bool, Turn>
         requires chunk { self.old.chunk ≡ [] }
         requires pending { self.old.channel.pending ≡ [] }
@@ -263,6 +264,7 @@ impl<L: Link> Client<L> {
 
     // Feeds the connection with what has come, and sends the replies. There may be more to receive
     // after it, of which the system will report nothing.
+    #[inline(always)]
     fn feed<A: AuditOut>(
         &mut self,
         server: &mut Server,

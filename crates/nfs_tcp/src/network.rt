@@ -14,7 +14,7 @@ use nfs_server::moments::Moments;
 use std::alloc::Global;
 use std::io::{self, ErrorKind};
 use std::net::{Net, SocketAddr};
-use std::time::{Clock, Duration, Instant};
+use std::time::{Clock, Duration};
 
 /// Listeners, the streams of their connections, and the clock, by the system, of which nothing is known.
 #[derive(Drop)]
@@ -22,7 +22,8 @@ pub struct TcpNetwork<'a, R> {
     rt: &'a R,
     alloc: Global,
     clock: SystemClock<'a, R>,
-    began: Instant,
+    // In microseconds, as the monotonic clock counts them.
+    began: u64,
     // How many microseconds after that the clock was read last.
     micros: u64,
     poll: Poll,
@@ -52,7 +53,7 @@ impl<'a, R: Net + Clock + Log> TcpNetwork<'a, R> {
             rt,
             alloc,
             clock: SystemClock::new(rt),
-            began: Instant::now(rt)?,
+            began: micros_of(rt.monotonic()?),
             micros: 0,
             poll,
             events: Events::with_capacity(alloc, EVENTS as usize)?,
@@ -101,6 +102,7 @@ impl<R: Net + Clock + Log> Network for TcpNetwork<'_, R> {
 
     ghost reported = { λ n. None };
 
+    #[inline(always)]
     fn wait(&mut self, timeout: Option<Duration>) -> io::Result<()> {
         let waited = self.poll.poll(&mut self.events, timeout);
         self.handed_out = 0;
@@ -165,10 +167,11 @@ impl<R: Net + Clock + Log> Network for TcpNetwork<'_, R> {
         self.micros / 1_000
     }
 
+    #[inline(always)]
     fn read_clock(&mut self) -> u64 {
         let before = self.micros;
-        if let Ok(elapsed) = self.began.elapsed(self.rt) {
-            self.micros = micros_of(elapsed);
+        if let Ok(time) = self.rt.monotonic() {
+            self.micros = micros_of(time).saturating_sub(self.began);
         }
         self.micros.saturating_sub(before)
     }

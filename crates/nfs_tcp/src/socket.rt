@@ -45,6 +45,7 @@ impl Link for Socket {
 
     ghost reports = { λ _ _ _ _. Unit {0} };
 
+    #[inline(always)]
     fn send(&mut self, bytes: &[u8]) -> Result<usize, DeviceFault> {
         match send(&mut self.stream, bytes) {
             Ok(n) => Ok(n),
@@ -55,6 +56,7 @@ impl Link for Socket {
         }
     }
 
+    #[inline(always)]
     fn receive(&mut self, buffer: &mut [u8]) -> Result<Came, DeviceFault> {
         match receive(&mut self.stream, buffer) {
             Ok(came) => Ok(came),

@@ -8,6 +8,7 @@ use nfs_xdr::link::Came;
 use std::io::{ErrorKind, Read, Write};
 
 /// Gives what has come, as much of it as there is room for. The kind of error where the stream fails.
+#[inline(always)]
 pub(crate) fn receive<R: Read>(stream: &mut R, buffer: &mut [u8]) -> Result<Came, ErrorKind>
     ensures fits { IfOk result (CameInto (length buffer.new)) }
     ensures came { 0 < length buffer.old → IfOk result (λ came. Gave (R.remaining stream.old) buffer.new came (R.remaining stream.new)) }
@@ -24,6 +25,7 @@ pub(crate) fn receive<R: Read>(stream: &mut R, buffer: &mut [u8]) -> Result<Came
 }
 
 /// Sends some first bytes, as many as are taken now, which may be none.
+#[inline(always)]
 pub(crate) fn send<W: Write>(stream: &mut W, bytes: &[u8]) -> Result<usize, DeviceFault>
     ensures count { IfOk result (λ n. n ≤ length bytes.now) }
     ensures sent { IfOk result (λ n. Grows (W.contents stream.old) (take n bytes.now) (W.contents stream.new)) }
