@@ -43,8 +43,18 @@ ok $? "MNT, UMNT, and another volume"
 
 # A message that is no call gets no reply, which is waited for ten seconds.
 plays 'call 10.0.0.1 0 0000002a 00000001' 'ask 10.0.0.1 0 9:9 stat /a/g'
-statuses 'GETATTR: NFS3_OK' && [ "$(grep -c '^reply ' "$work/out")" = 1 ]
-ok $? "a record that gets no reply"
+echo "warning: $work/script:1: no reply within 10 seconds" >"$work/wanted"
+[ "$(grep '^  [A-Z]' "$work/out")" = '  GETATTR: NFS3_OK' ] && [ "$(grep -c '^reply ' "$work/out")" = 1 ] && same "$work/wanted" "$work/err" && ended 0
+ok $? "a record that gets no reply: a warning, and the script goes on"
+
+# The server sleeps until the first call is given up; then it answers both.
+kill -STOP "$server"
+(sleep 11; kill -CONT "$server") &
+null='00000000 00000002 000186a3 00000003 00000000 00000000 00000000 00000000 00000000'
+plays "call 10.0.0.1 0 00000001 $null" "call 10.0.0.1 0 00000002 $null"
+echo "warning: $work/script:1: no reply within 10 seconds" >"$work/wanted"
+[ "$(grep '^reply ' "$work/out")" = 'reply 000000020000000100000000000000000000000000000000' ] && same "$work/wanted" "$work/err" && ended 0
+ok $? "a late reply isn't taken for that of the next call"
 
 # ---- faults
 

@@ -20,14 +20,15 @@ const PATIENCE: u64 = 10;
 // How much output is written at once.
 const RUN_BYTES: usize = 65_536;
 
-// A server at an address.
+// A server at an address, and the name of the script that is played against it.
 #[derive(Drop)]
 struct ServerAt<'a, R> {
     rt: &'a R,
     address: SocketAddr,
+    script: &'a str,
 }
 
-impl<R: Net<Stream = TcpStream>> Dialer for ServerAt<'_, R> {
+impl<R: Eprint + Net<Stream = TcpStream>> Dialer for ServerAt<'_, R> {
     type Stream = TcpStream;
 
     fn dial(&self) -> io::Result<TcpStream> {
@@ -36,12 +37,18 @@ impl<R: Net<Stream = TcpStream>> Dialer for ServerAt<'_, R> {
         stream.set_read_timeout(Some(Duration::from_secs(PATIENCE)))?;
         Ok(stream)
     }
+
+    fn report_silence(&self, line: u64) {
+        let script = self.script;
+        let _ = eprintln!(self.rt; "warning: {script}:{line}: no reply within {PATIENCE} seconds");
+    }
 }
 
-/// Plays a script against the server at this port, and prints the replies. `CannotRead` and `TooLong` where the script
+/// Plays a script against the server at this port, and prints the replies, and a warning on standard error for each line
+/// to which none comes within 10 seconds. `CannotRead` and `TooLong` where the script
 /// can't be read, `Script` with its first faulty line, `Network` where the server can't be reached or doesn't answer as
 /// one, `Write` and `Closed` where the output fails, `Memory`.
-pub fn replay_live<R: Files + Input + Print + Net<Stream = TcpStream>>(
+pub fn replay_live<R: Files + Input + Print + Eprint + Net<Stream = TcpStream>>(
     rt: &R,
     alloc: Global,
     words: Replay<'_, '_>,
@@ -53,6 +60,7 @@ pub fn replay_live<R: Files + Input + Print + Net<Stream = TcpStream>>(
     let server = ServerAt {
         rt,
         address: SocketAddr::new(host, port),
+        script: words.lone_script(),
     };
     let Ok(lines) = BufWriter::with_capacity(alloc, RUN_BYTES, io::writer(rt)) else {
         return Err(AllocError.into());

@@ -110,6 +110,8 @@ pub(crate) struct Connection<S: Drop> {
     alloc: Global,
     stream: S,
     next_xid: u32,
+    // How many calls weren't answered in time. Their replies may still come.
+    unanswered: u32,
     // The volumes that the server exports, once they were asked for.
     volumes: Option<Vec<Vec<u8>>>,
     roots: Vec<Root>,
@@ -122,6 +124,7 @@ impl<S: Read + Write + Drop> Connection<S> {
             alloc,
             stream,
             next_xid: FIRST_XID,
+            unanswered: 0,
             volumes: None,
             roots: Vec::new(alloc),
         }
@@ -130,8 +133,24 @@ impl<S: Read + Write + Drop> Connection<S> {
     /// Sends a record, and waits for the reply. The error of the network.
     pub(crate) fn exchange(&mut self, call: Vec<u8>) -> io::Result<Exchange> {
         send(&mut self.stream, call.as_slice())?;
-        let reply = receive(self.alloc, &mut self.stream)?;
+        let reply = self.reply_to(call.as_slice())?;
+        if reply.is_none() {
+            self.unanswered = self.unanswered.saturating_add(1);
+        }
         Ok(Exchange { call, reply })
+    }
+
+    // The reply to a call, after late ones to earlier calls.
+    fn reply_to(&mut self, call: &[u8]) -> io::Result<Option<Vec<u8>>> {
+        for _ in 0..self.unanswered {
+            match receive(self.alloc, &mut self.stream)? {
+                Some(reply) if reply.get(..4) != call.get(..4) => {
+                    self.unanswered = self.unanswered.saturating_sub(1);
+                }
+                reply => return Ok(reply),
+            }
+        }
+        receive(self.alloc, &mut self.stream)
     }
 
     /// The handle of the file that a path names.

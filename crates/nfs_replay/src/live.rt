@@ -29,6 +29,9 @@ pub trait Dialer {
 
     /// A new connection. The error of the network.
     fn dial(&self) -> io::Result<Self::Stream>;
+
+    /// Reports that no reply came to the call of this line of the script.
+    fn report_silence(&self, line: u64);
 }
 
 /// Why a script isn't played to its end.
@@ -88,7 +91,8 @@ impl From<io::Error> for Stop {
 /// Sends what each line of a script says to a server, on a connection for each address of the lines, and prints the
 /// reply to it, and where that is asked for what it says in words. The server sees the address of this machine, and its
 /// own clock. The files of an `ask` line are looked for as a client does: by EXPORT, MNT and LOOKUP, as the line's user;
-/// where one of these fails, its reply is printed, and the line is done. A call to which no reply comes prints nothing.
+/// where one of these fails, its reply is printed, and the line is done. A call to which no reply comes prints nothing,
+/// and the dialer reports it.
 ///
 /// `Script` as a run of the script has it, and with `NotLive` at an `attach`, `detach`, `feed` or `show` line, which is
 /// for a server of one's own; a word of bytes may name no file. `Network` where the network fails.
@@ -184,7 +188,10 @@ impl<D: Dialer> Player<'_, D> {
             }
         };
         let Exchange { call, reply } = exchange;
-        self.print(call.as_slice(), reply, out)?;
+        match reply {
+            Some(reply) => self.print(call.as_slice(), reply.as_slice(), out)?,
+            None => self.dialer.report_silence(before.saturating_add(1)),
+        }
         Ok(sent.keep(&Some(SentRecord {
             addr,
             moment,
@@ -238,19 +245,16 @@ impl<D: Dialer> Player<'_, D> {
         }
     }
 
-    // Prints a reply, if one came, and what it says to its call where that is asked for.
+    // Prints a reply, and what it says to its call where that is asked for.
     fn print<W: ByteOut>(
         &mut self,
         call: &[u8],
-        reply: Option<Vec<u8>>,
+        reply: &[u8],
         out: &mut W,
     ) -> Result<(), RunFault> {
-        let Some(reply) = reply else {
-            return Ok(());
-        };
-        self.printer.bytes(out, "reply ", reply.as_slice())?;
+        self.printer.bytes(out, "reply ", reply)?;
         if self.is_decoded {
-            self.printer.words(out, call, reply.as_slice())?;
+            self.printer.words(out, call, reply)?;
         }
         Ok(())
     }
