@@ -48,8 +48,9 @@ echo "warning: $work/script:1: no reply within 10 seconds" >"$work/wanted"
 ok $? "a record that gets no reply: a warning, and the script goes on"
 
 # The server sleeps until the first call is given up; then it answers both.
-kill -STOP "$server"
-(sleep 11; kill -CONT "$server") &
+process=$(server_process)
+kill -STOP "$process"
+(sleep 11; kill -CONT "$process") &
 null='00000000 00000002 000186a3 00000003 00000000 00000000 00000000 00000000 00000000'
 plays "call 10.0.0.1 0 00000001 $null" "call 10.0.0.1 0 00000002 $null"
 echo "warning: $work/script:1: no reply within 10 seconds" >"$work/wanted"
