@@ -12,7 +12,10 @@
 enum { PEERS = 8192, ROOM = 4 * (65536 + 1024), BATCH = 524288, LONGEST = 131072 + 1024, MOST = 200000, BOUNDS = 6 };
 
 static size_t came[PEERS]; /* how many bytes have come that are not answered */
-uint64_t heard[PEERS], turns[BOUNDS + 1], together; /* in seconds; how many turns were within each bound; in microseconds */
+
+/* When a peer was heard, in seconds; how many turns took as long; how many microseconds they took together. None is static, so that
+ * the compiler keeps what nothing reads. */
+uint64_t heard[PEERS], turns[BOUNDS + 1], together;
 static unsigned char *held[PEERS], batch[BATCH];
 static const struct export exports[] = {{0, 0, 0, NOBODY, 0, 0}};
 
