@@ -2,23 +2,13 @@
  * bytes as of pages.c.
  */
 #include "answer.h"
+#include "timed.h"
 
-enum { NAMES = 1000, NAME = 4, ROUNDS = 20000, RUNS = 5 };
+enum { NAMES = 1000, NAME = 4 };
 
 static unsigned char out[MAX_LIST];
 
-static void measure(const char *name, size_t room, int plus) {
-    uint64_t least = UINT64_MAX;
-    size_t bytes = 0;
-    for (int run = 0; run < RUNS; run++) {
-        uint64_t start = now();
-        for (int round = 0; round < ROUNDS; round++)
-            bytes = (size_t)(put_entries(out, room - PAGE_HEAD, &files[0], 0, plus) - out);
-        uint64_t time = now() - start;
-        least = time < least ? time : least;
-    }
-    printf("%s %.1f %zu\n", name, (double)least / ROUNDS, bytes);
-}
+static size_t write_page(size_t room, int plus) { return (size_t)(put_entries(out, room - PAGE_HEAD, &files[0], 0, plus) - out); }
 
 int main(void) {
     s = (struct server){.tagged = 1};
@@ -32,7 +22,7 @@ int main(void) {
         enter(&files[0], (struct bytes){name, NAME}, &files[1 + i]);
     }
     s.count = NAMES + 1;
-    measure("found-1000", MAX_LIST, 0);
-    measure("found-plus-200", PAGE_HEAD + 200 * (28 + 4 + 84 + 4 + 4 + HANDLE), 1);
+    measure("found-1000", write_page, MAX_LIST, 0);
+    measure("found-plus-200", write_page, PAGE_HEAD + 200 * (28 + 4 + 84 + 4 + 4 + HANDLE), 1);
     return 0;
 }

@@ -1,7 +1,7 @@
 //! Bytes that are lent from a record: handles, names, paths and data.
 ghost use Rattle.std.specs.Prelude.{◌≡◌, ◌≤◌, length};
-ghost use Rattle.std.specs.Int.{w32, to_be_bytes};
-ghost use Rattle.nfs_xdr.specs.Encoding.{IsOptional, numbers_text, opaque_text, optional_text};
+ghost use Rattle.std.specs.Int.{w64, to_be_bytes};
+ghost use Rattle.nfs_xdr.specs.Encoding.{IsOptional, hypers_text, opaque_text, optional_text};
 ghost use Rattle.nfs_xdr.specs.Written.{Appends};
 ghost use Rattle.nfs_args.specs.Encoding.{IsHandle, IsString};
 ghost use Rattle.nfs_args.specs.Results.{StringFits, HandleFits};
@@ -10,7 +10,7 @@ ghost use Rattle.nfs_args.specs.Reading.{Takes, handle_at, string_at, verifier_a
 use crate::limits::MAX_HANDLE_BYTES;
 use nfs_xdr::fault::XdrFault;
 use nfs_xdr::input::Input;
-use nfs_xdr::output::Output;
+use nfs_xdr::output::{Output, hyper_of};
 use std::marker::Model;
 
 /// How many bytes a verifier has (RFC 1813, section 2.4, NFS3_CREATEVERFSIZE and
@@ -85,7 +85,8 @@ pub(crate) fn write_handle(out: &mut Output, handle: &Opaque<'_>)
 {
     let handle = handle.bytes();
     if handle.len() == OWN_HANDLE_BYTES {
-        out.numbers(numbers_of(handle));
+        out.u32(OWN_HANDLE_BYTES as u32);
+        out.hypers(hypers_of(handle));
     } else {
         out.opaque(handle);
     }
@@ -101,6 +102,10 @@ pub(crate) fn write_post_op_handle(out: &mut Output, handle: &Option<Opaque<'_>>
 {
     match handle {
         None => out.u32(0),
+        Some(handle) if handle.bytes().len() == OWN_HANDLE_BYTES => {
+            out.hypers([hyper_of(1, OWN_HANDLE_BYTES as u32)]);
+            out.hypers(hypers_of(handle.bytes()));
+        }
         Some(handle) => {
             out.u32(1);
             write_handle(out, handle);
@@ -108,36 +113,25 @@ pub(crate) fn write_post_op_handle(out: &mut Output, handle: &Option<Opaque<'_>>
     }
 }
 
-// The numbers that are encoded as the length of these bytes and then as they are. Written so, a handle that was put together
-// from numbers needn't be laid down byte by byte first.
+// The hyper integers that are encoded as these bytes. Written so, a handle that was put together from
+// numbers needn't be laid down byte by byte first.
 #[inline(always)]
-fn numbers_of(bytes: &[u8]) -> [u32; 7]
+fn hypers_of(bytes: &[u8]) -> [u64; 3]
     requires { length bytes.now ≡ OWN_HANDLE_BYTES }
-    ensures { numbers_text result ≡ opaque_text bytes.now }
+    ensures { hypers_text result ≡ bytes.now }
 {
-    let (a, rest) = bytes.split_at(4);
-    let (b, rest) = rest.split_at(4);
-    let (c, rest) = rest.split_at(4);
-    let (d, rest) = rest.split_at(4);
-    let (e, f) = rest.split_at(4);
-    [
-        OWN_HANDLE_BYTES as u32,
-        word(a),
-        word(b),
-        word(c),
-        word(d),
-        word(e),
-        word(f),
-    ]
+    let (a, rest) = bytes.split_at(8);
+    let (b, c) = rest.split_at(8);
+    [hyper(a), hyper(b), hyper(c)]
 }
 
-// The number that is encoded as these bytes.
+// The hyper integer that is encoded as these bytes.
 #[inline(always)]
-fn word(bytes: &[u8]) -> u32
-    requires { length bytes.now ≡ 4 }
-    ensures { to_be_bytes w32 result ≡ bytes.now }
+fn hyper(b: &[u8]) -> u64
+    requires { length b.now ≡ 8 }
+    ensures { to_be_bytes w64 result ≡ b.now }
 {
-    u32::from_be_bytes([bytes[0], bytes[1], bytes[2], bytes[3]])
+    u64::from_be_bytes([b[0], b[1], b[2], b[3], b[4], b[5], b[6], b[7]])
 }
 
 // A name or a path.

@@ -1,71 +1,66 @@
 -- What is written of attributes is their encoding.
-use Rattle.std.proofs.Common.{◌≡◌, ℕ, List, [], ◌∷◌, ◌++◌, sym, ap, subst, ◌∙◌, append_assoc, append-nil}
+use Rattle.std.proofs.Common.{◌≡◌, ℕ, List, [], ◌∷◌, ◌++◌, refl, ap, subst, ◌∙◌}
 use Rattle.std.specs.Int.{w32, w64, to_be_bytes}
-use Rattle.std.proofs.lemmas.Grind.{flat_map-append}
-use Rattle.nfs_xdr.specs.Encoding.{IsNumber, numbers_text}
+use Rattle.nfs_xdr.specs.Encoding.{IsNumber, numbers_text, hypers_text}
 use Rattle.nfs_xdr.proofs.Writing.{followed}
 use Rattle.nfs_attrs.specs.declared.fattr.Fattr.{Fattr}
 use Rattle.nfs_attrs.specs.declared.moment.Moment.{Moment}
 use Rattle.nfs_attrs.specs.declared.pre_attr.PreAttr.{PreAttr}
-use Rattle.nfs_attrs.specs.Encoding.{IsMoment, IsFileType, IsFattr, type_number, moment_text, file_type_text, fattr_text, pre_attr_text}
+use Rattle.nfs_attrs.specs.Encoding.{IsMoment, IsAfterType, IsFattr, type_number, moment_text, after_type_text, fattr_text, pre_attr_text}
 
--- a text is that of numbers, one after another
-record AreNumbers (ns text : List ℕ) : Type 0 where
-  text_is : numbers_text ns ≡ text
+-- a text is that of hyper integers, one after another
+record AreHypers (ns text : List ℕ) : Type 0 where
+  text_is : hypers_text ns ≡ text
 
-word_then : (n : ℕ) (ns rest : List ℕ) → AreNumbers ns rest → AreNumbers (n ∷ ns) (to_be_bytes w32 n ++ rest)
-word_then n ns rest more = record { text_is = ap (λ t. to_be_bytes w32 n ++ t) more.text_is }
+hyper_then : (n : ℕ) (ns rest : List ℕ) → AreHypers ns rest → AreHypers (n ∷ ns) (to_be_bytes w64 n ++ rest)
+hyper_then n ns rest more = record { text_is = ap (λ t. to_be_bytes w64 n ++ t) more.text_is }
 
-kind_then : (n kind : ℕ) (ns rest : List ℕ) → kind ≡ n → AreNumbers ns rest → AreNumbers (kind ∷ ns) (to_be_bytes w32 n ++ rest)
-kind_then n kind ns rest kind_is more = subst (λ k. AreNumbers (kind ∷ ns) (to_be_bytes w32 k ++ rest)) kind_is (word_then kind ns rest more)
+-- one of them is that of two integers
+pair_then : (n high low : ℕ) (ns rest : List ℕ) → to_be_bytes w64 n ≡ numbers_text (high ∷ low ∷ []) → AreHypers ns rest → AreHypers (n ∷ ns) (to_be_bytes w32 high ++ to_be_bytes w32 low ++ rest)
+pair_then n high low ns rest pair more = record { text_is = ap (λ t. t ++ hypers_text ns) pair ∙ ap (λ t. to_be_bytes w32 high ++ to_be_bytes w32 low ++ t) more.text_is }
 
-words_then : (m n : ℕ) (ns rest : List ℕ) → AreNumbers ns rest → AreNumbers (m ∷ n ∷ ns) ((to_be_bytes w32 m ++ to_be_bytes w32 n) ++ rest)
-words_then m n ns rest more = record { text_is = ap (λ t. to_be_bytes w32 m ++ to_be_bytes w32 n ++ t) more.text_is ∙ sym (append_assoc (to_be_bytes w32 m) (to_be_bytes w32 n) rest) }
+none : AreHypers [] []
+none = record { text_is = refl }
 
-words : (m n : ℕ) → AreNumbers (m ∷ n ∷ []) (to_be_bytes w32 m ++ to_be_bytes w32 n)
-words m n = record { text_is = ap (λ t. to_be_bytes w32 m ++ t) (append-nil (to_be_bytes w32 n)) }
+-- the hyper integers of attributes, some of which are those of two fields, are their text after the kind of file
+pub fattr_hypers :
+    (a : Fattr) (rights owners device atime mtime ctime : ℕ)
+    → to_be_bytes w64 rights ≡ numbers_text (a.mode ∷ a.nlink ∷ [])
+    → to_be_bytes w64 owners ≡ numbers_text (a.uid ∷ a.gid ∷ [])
+    → to_be_bytes w64 device ≡ numbers_text (a.rdev.specdata1 ∷ a.rdev.specdata2 ∷ [])
+    → to_be_bytes w64 atime ≡ numbers_text (a.atime.seconds ∷ a.atime.nanos ∷ [])
+    → to_be_bytes w64 mtime ≡ numbers_text (a.mtime.seconds ∷ a.mtime.nanos ∷ [])
+    → to_be_bytes w64 ctime ≡ numbers_text (a.ctime.seconds ∷ a.ctime.nanos ∷ [])
+    → hypers_text (rights ∷ owners ∷ a.size ∷ a.used ∷ device ∷ a.fsid ∷ a.fileid ∷ atime ∷ mtime ∷ ctime ∷ []) ≡ after_type_text a
+fattr_hypers a rights owners device atime mtime ctime rights_are owners_are device_is atime_is mtime_is ctime_is =
+    (pair_then _ _ _ _ _ rights_are
+    (pair_then _ _ _ _ _ owners_are
+    (hyper_then _ _ _
+    (hyper_then _ _ _
+    (pair_then _ _ _ _ _ device_is
+    (hyper_then _ _ _
+    (hyper_then _ _ _
+    (pair_then _ _ _ _ _ atime_is
+    (pair_then _ _ _ _ _ mtime_is
+    (pair_then _ _ _ _ _ ctime_is none)))))))))).text_is
 
--- those of a hyper integer are its two halves
-hyper_then : (high low n : ℕ) (ns rest : List ℕ) → numbers_text (high ∷ low ∷ []) ≡ to_be_bytes w64 n → AreNumbers ns rest → AreNumbers (high ∷ low ∷ ns) (to_be_bytes w64 n ++ rest)
-hyper_then high low n ns rest halves more = record {
-  text_is = flat_map-append (to_be_bytes w32) (high ∷ low ∷ []) ns ∙ ap (λ t. t ++ numbers_text ns) halves ∙ ap (λ t. to_be_bytes w64 n ++ t) more.text_is;
-}
-
--- the numbers of attributes, those of hyper integers in halves, are their text
-pub fattr_numbers :
-    (a : Fattr) (kind size_high size_low used_high used_low fsid_high fsid_low fileid_high fileid_low : ℕ)
-    → kind ≡ type_number a.file_type
-    → numbers_text (size_high ∷ size_low ∷ []) ≡ to_be_bytes w64 a.size
-    → numbers_text (used_high ∷ used_low ∷ []) ≡ to_be_bytes w64 a.used
-    → numbers_text (fsid_high ∷ fsid_low ∷ []) ≡ to_be_bytes w64 a.fsid
-    → numbers_text (fileid_high ∷ fileid_low ∷ []) ≡ to_be_bytes w64 a.fileid
-    → numbers_text (kind ∷ a.mode ∷ a.nlink ∷ a.uid ∷ a.gid ∷ size_high ∷ size_low ∷ used_high ∷ used_low ∷ a.rdev.specdata1 ∷ a.rdev.specdata2 ∷ fsid_high ∷ fsid_low ∷ fileid_high ∷ fileid_low ∷ a.atime.seconds ∷ a.atime.nanos ∷ a.mtime.seconds ∷ a.mtime.nanos ∷ a.ctime.seconds ∷ a.ctime.nanos ∷ [])
-    ≡ fattr_text a
-fattr_numbers a kind size_high size_low used_high used_low fsid_high fsid_low fileid_high fileid_low kind_is size used fsid fileid =
-    (kind_then _ _ _ _ kind_is
-    (word_then _ _ _
-    (word_then _ _ _
-    (word_then _ _ _
-    (word_then _ _ _
-    (hyper_then size_high size_low a.size _ _ size
-    (hyper_then used_high used_low a.used _ _ used
-    (words_then _ _ _ _
-    (hyper_then fsid_high fsid_low a.fsid _ _ fsid
-    (hyper_then fileid_high fileid_low a.fileid _ _ fileid
-    (words_then _ _ _ _
-    (words_then _ _ _ _
-    (words a.ctime.seconds a.ctime.nanos))))))))))))).text_is
+-- a number and the kind of file as one hyper integer
+pub led_by_type : (a : Fattr) (first kind n : ℕ) → kind ≡ type_number a.file_type → to_be_bytes w64 n ≡ numbers_text (first ∷ kind ∷ [])
+    → hypers_text (n ∷ []) ++ after_type_text a ≡ to_be_bytes w32 first ++ fattr_text a
+led_by_type a first kind n kind_is pair =
+    ap (λ t. t ++ after_type_text a) pair ∙ ap (λ k. to_be_bytes w32 first ++ to_be_bytes w32 k ++ after_type_text a) kind_is
 
 pub moment_numbers : (m : Moment) → numbers_text (m.seconds ∷ m.nanos ∷ []) ≡ moment_text m
-moment_numbers m = (words m.seconds m.nanos).text_is
+moment_numbers m = refl
 
-pub pre_attr_numbers : (a : PreAttr) (size_high size_low : ℕ)
-    → numbers_text (size_high ∷ size_low ∷ []) ≡ to_be_bytes w64 a.size
-    → numbers_text (size_high ∷ size_low ∷ a.mtime.seconds ∷ a.mtime.nanos ∷ a.ctime.seconds ∷ a.ctime.nanos ∷ []) ≡ pre_attr_text a
-pre_attr_numbers a size_high size_low size =
-    (hyper_then size_high size_low a.size _ _ size
-    (words_then _ _ _ _
-    (words a.ctime.seconds a.ctime.nanos))).text_is
+pub pre_attr_hypers : (a : PreAttr) (mtime ctime : ℕ)
+    → to_be_bytes w64 mtime ≡ numbers_text (a.mtime.seconds ∷ a.mtime.nanos ∷ [])
+    → to_be_bytes w64 ctime ≡ numbers_text (a.ctime.seconds ∷ a.ctime.nanos ∷ [])
+    → hypers_text (a.size ∷ mtime ∷ ctime ∷ []) ≡ pre_attr_text a
+pre_attr_hypers a mtime ctime mtime_is ctime_is =
+    (hyper_then _ _ _
+    (pair_then _ _ _ _ _ mtime_is
+    (pair_then _ _ _ _ _ ctime_is none))).text_is
 
 abbrev IsWord : ℕ → Type 0
 IsWord n = IsNumber w32 n (to_be_bytes w32 n)
@@ -73,12 +68,11 @@ IsWord n = IsNumber w32 n (to_be_bytes w32 n)
 abbrev IsHyper : ℕ → Type 0
 IsHyper n = IsNumber w64 n (to_be_bytes w64 n)
 
-pub fattr_written :
-    (a : Fattr) → IsFileType a.file_type (file_type_text a.file_type) → IsWord a.mode → IsWord a.nlink → IsWord a.uid → IsWord a.gid → IsHyper a.size → IsHyper a.used → IsWord a.rdev.specdata1 → IsWord a.rdev.specdata2 → IsHyper a.fsid → IsHyper a.fileid
-    → IsMoment a.atime (moment_text a.atime) → IsMoment a.mtime (moment_text a.mtime) → IsMoment a.ctime (moment_text a.ctime) → IsFattr a (fattr_text a)
-fattr_written a file_type mode nlink uid gid size used specdata1 specdata2 fsid fileid atime mtime ctime =
-    followed _ _ _ _ file_type
-    (followed _ _ _ _ mode
+pub after_type_written :
+    (a : Fattr) → IsWord a.mode → IsWord a.nlink → IsWord a.uid → IsWord a.gid → IsHyper a.size → IsHyper a.used → IsWord a.rdev.specdata1 → IsWord a.rdev.specdata2 → IsHyper a.fsid → IsHyper a.fileid
+    → IsMoment a.atime (moment_text a.atime) → IsMoment a.mtime (moment_text a.mtime) → IsMoment a.ctime (moment_text a.ctime) → IsAfterType a (after_type_text a)
+after_type_written a mode nlink uid gid size used specdata1 specdata2 fsid fileid atime mtime ctime =
+    followed _ _ _ _ mode
     (followed _ _ _ _ nlink
     (followed _ _ _ _ uid
     (followed _ _ _ _ gid
@@ -88,4 +82,7 @@ fattr_written a file_type mode nlink uid gid size used specdata1 specdata2 fsid 
     (followed _ _ _ _ fsid
     (followed _ _ _ _ fileid
     (followed _ _ _ _ atime
-    (followed _ _ _ _ mtime ctime)))))))))))
+    (followed _ _ _ _ mtime ctime))))))))))
+
+pub fattr_written : (a : Fattr) (kind : ℕ) → kind ≡ type_number a.file_type → IsWord kind → IsAfterType a (after_type_text a) → IsFattr a (fattr_text a)
+fattr_written a kind kind_is word after = followed _ _ _ _ (subst IsWord kind_is word) after

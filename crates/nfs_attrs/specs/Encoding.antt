@@ -34,11 +34,14 @@ IsFileType = IsEnum type_number
 abbrev pub IsSpecData : SpecData → List ℕ → Type 0
 IsSpecData d = IsNumber w32 d.specdata1 ⨾ IsNumber w32 d.specdata2
 
--- fattr3
-abbrev pub IsFattr : Fattr → List ℕ → Type 0
-IsFattr a =
-    IsFileType a.file_type ⨾ IsNumber w32 a.mode ⨾ IsNumber w32 a.nlink ⨾ IsNumber w32 a.uid ⨾ IsNumber w32 a.gid ⨾ IsNumber w64 a.size ⨾ IsNumber w64 a.used
+-- fattr3: the kind of file, and what follows it
+abbrev pub IsAfterType : Fattr → List ℕ → Type 0
+IsAfterType a =
+    IsNumber w32 a.mode ⨾ IsNumber w32 a.nlink ⨾ IsNumber w32 a.uid ⨾ IsNumber w32 a.gid ⨾ IsNumber w64 a.size ⨾ IsNumber w64 a.used
     ⨾ IsSpecData a.rdev ⨾ IsNumber w64 a.fsid ⨾ IsNumber w64 a.fileid ⨾ IsMoment a.atime ⨾ IsMoment a.mtime ⨾ IsMoment a.ctime
+
+abbrev pub IsFattr : Fattr → List ℕ → Type 0
+IsFattr a = IsFileType a.file_type ⨾ IsAfterType a
 
 -- post_op_attr
 abbrev pub IsPostOpAttr : Option Fattr → List ℕ → Type 0
@@ -79,11 +82,14 @@ file_type_text t = to_be_bytes w32 (type_number t)
 abbrev pub spec_data_text : SpecData → List ℕ
 spec_data_text d = to_be_bytes w32 d.specdata1 ++ to_be_bytes w32 d.specdata2
 
-abbrev pub fattr_text : Fattr → List ℕ
-fattr_text a =
-    file_type_text a.file_type ++ to_be_bytes w32 a.mode ++ to_be_bytes w32 a.nlink ++ to_be_bytes w32 a.uid ++ to_be_bytes w32 a.gid
+abbrev pub after_type_text : Fattr → List ℕ
+after_type_text a =
+    to_be_bytes w32 a.mode ++ to_be_bytes w32 a.nlink ++ to_be_bytes w32 a.uid ++ to_be_bytes w32 a.gid
     ++ to_be_bytes w64 a.size ++ to_be_bytes w64 a.used
     ++ spec_data_text a.rdev ++ to_be_bytes w64 a.fsid ++ to_be_bytes w64 a.fileid ++ moment_text a.atime ++ moment_text a.mtime ++ moment_text a.ctime
+
+abbrev pub fattr_text : Fattr → List ℕ
+fattr_text a = file_type_text a.file_type ++ after_type_text a
 
 abbrev pub post_op_attr_text : Option Fattr → List ℕ
 post_op_attr_text = optional_text fattr_text

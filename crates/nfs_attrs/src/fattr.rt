@@ -2,14 +2,14 @@
 ghost use Rattle.std.specs.Prelude.{◌≡◌, ◌≤◌, length, option_copied};
 ghost use Rattle.nfs_xdr.specs.Reading.{Gives, Reads};
 ghost use Rattle.nfs_xdr.specs.Written.{Appends};
-ghost use Rattle.nfs_attrs.specs.Encoding.{IsFattr, IsPostOpAttr, fattr_text, post_op_attr_text};
+ghost use Rattle.nfs_attrs.specs.Encoding.{IsAfterType, IsFattr, IsPostOpAttr, after_type_text, fattr_text, post_op_attr_text};
 ghost use Rattle.nfs_attrs.specs.Reading.{fattr_at, post_op_attr_at};
 
 use crate::file_type::{FileType, number_of, read_file_type};
 use crate::moment::{Moment, read_moment};
 use nfs_xdr::fault::XdrFault;
 use nfs_xdr::input::Input;
-use nfs_xdr::output::{Output, halves};
+use nfs_xdr::output::{Output, hyper_of};
 
 /// The two numbers of a device, whose meaning the kind of file gives: for a block or character
 /// device its major and minor number (RFC 1813, section 2.6, specdata3).
@@ -109,32 +109,28 @@ pub fn write_fattr(out: &mut Output, attributes: &Fattr)
     ensures text { Appends (fattr_text attributes.now) out.old out.new }
     ensures encoded { IsFattr attributes.now (fattr_text attributes.now) }
 {
-    let (size_high, size_low) = halves(attributes.size);
-    let (used_high, used_low) = halves(attributes.used);
-    let (fsid_high, fsid_low) = halves(attributes.fsid);
-    let (fileid_high, fileid_low) = halves(attributes.fileid);
-    out.numbers([
-        number_of(attributes.file_type),
-        attributes.mode,
-        attributes.nlink,
-        attributes.uid,
-        attributes.gid,
-        size_high,
-        size_low,
-        used_high,
-        used_low,
-        attributes.rdev.specdata1,
-        attributes.rdev.specdata2,
-        fsid_high,
-        fsid_low,
-        fileid_high,
-        fileid_low,
-        attributes.atime.seconds,
-        attributes.atime.nanos,
-        attributes.mtime.seconds,
-        attributes.mtime.nanos,
-        attributes.ctime.seconds,
-        attributes.ctime.nanos,
+    out.u32(number_of(attributes.file_type));
+    write_after_type(out, attributes);
+}
+
+// Writes the attributes after the kind of file, by eight bytes.
+#[inline(always)]
+fn write_after_type(out: &mut Output, attributes: &Fattr)
+    requires { 80 ≤ out.old.room }
+    ensures text { Appends (after_type_text attributes.now) out.old out.new }
+    ensures encoded { IsAfterType attributes.now (after_type_text attributes.now) }
+{
+    out.hypers([
+        hyper_of(attributes.mode, attributes.nlink),
+        hyper_of(attributes.uid, attributes.gid),
+        attributes.size,
+        attributes.used,
+        hyper_of(attributes.rdev.specdata1, attributes.rdev.specdata2),
+        attributes.fsid,
+        attributes.fileid,
+        hyper_of(attributes.atime.seconds, attributes.atime.nanos),
+        hyper_of(attributes.mtime.seconds, attributes.mtime.nanos),
+        hyper_of(attributes.ctime.seconds, attributes.ctime.nanos),
     ]);
 }
 
@@ -171,8 +167,8 @@ pub fn write_post_op_attr(out: &mut Output, attributes: Option<&Fattr>)
     match attributes {
         None => out.u32(0),
         Some(attributes) => {
-            out.u32(1);
-            write_fattr(out, attributes);
+            out.hypers([hyper_of(1, number_of(attributes.file_type))]);
+            write_after_type(out, attributes);
         }
     }
 }

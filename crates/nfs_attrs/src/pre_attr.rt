@@ -8,7 +8,7 @@ ghost use Rattle.nfs_attrs.specs.Reading.{pre_attr_at, pre_op_attr_at};
 use crate::moment::{Moment, read_moment};
 use nfs_xdr::fault::XdrFault;
 use nfs_xdr::input::Input;
-use nfs_xdr::output::{Output, halves};
+use nfs_xdr::output::{Output, hyper_of};
 
 /// What a client compares with the attributes it knew, to see whether the file was changed by
 /// others (RFC 1813, section 2.6, wcc_attr).
@@ -48,14 +48,10 @@ pub fn write_pre_attr(out: &mut Output, attributes: &PreAttr)
     ensures text { Appends (pre_attr_text attributes.now) out.old out.new }
     ensures encoded { IsPreAttr attributes.now (pre_attr_text attributes.now) }
 {
-    let (size_high, size_low) = halves(attributes.size);
-    out.numbers([
-        size_high,
-        size_low,
-        attributes.mtime.seconds,
-        attributes.mtime.nanos,
-        attributes.ctime.seconds,
-        attributes.ctime.nanos,
+    out.hypers([
+        attributes.size,
+        hyper_of(attributes.mtime.seconds, attributes.mtime.nanos),
+        hyper_of(attributes.ctime.seconds, attributes.ctime.nanos),
     ]);
 }
 

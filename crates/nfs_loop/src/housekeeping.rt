@@ -256,7 +256,9 @@ impl Housekeeping {
 
     // Whether nothing else is to be done in this round: the second is that of the last one, nobody asks for anything, and
     // the service is not told to end.
-    fn is_quiet(&self, seconds: u64) -> bool {
+    fn is_quiet(&self, seconds: u64) -> bool
+        ensures { result ≡ (nat_eq seconds self.now.asked && not self.now.is_woken && not self.now.is_closed) }
+    {
         seconds == self.asked && !self.is_woken && !self.is_closed
     }
 

@@ -1,5 +1,5 @@
 -- Reading an item finds its encoding.
-use Rattle.std.proofs.Common.{◌≡◌, ℕ, suc, zero, ◌+◌, ◌-◌, ◌^◌, ◌%◌, ◌/◌, ◌<◌, ◌≤◌, Bool, true, false, ltb, eqb, List, [], ◌∷◌, ◌++◌, length, take, drop, Option, Some, None, if◌then◌else◌, Ok, Err, refl, sym, ap, subst, ◌∙◌, append_assoc, append-nil, take-add, length-drop, arith, flat_map, get_or, set, ◌⊎◌, inl, inr}
+use Rattle.std.proofs.Common.{◌≡◌, ℕ, suc, zero, ◌+◌, ◌-◌, ◌*◌, ◌^◌, ◌%◌, ◌/◌, ◌<◌, ◌≤◌, Bool, true, false, ltb, eqb, List, [], ◌∷◌, ◌++◌, length, take, drop, Option, Some, None, if◌then◌else◌, Ok, Err, refl, sym, ap, subst, ◌∙◌, append_assoc, append-nil, take-add, length-drop, arith, flat_map, get_or, set, ◌⊎◌, inl, inr}
 use Rattle.std.specs.Int.{Width, w32, w64, byte_len, from_be_bytes, to_be_bytes}
 use Rattle.std.proofs.lemmas.Bool.{cases_lt, ltb-false, ltb-true, le-ltb, eqb-true}
 use Rattle.std.proofs.lemmas.Grind.{flat_map-append}
@@ -322,16 +322,16 @@ opaque_written max item counted bound = record {
 }
 
 -- what a loop has after one number more
-pub numbers_more : (ns : List ℕ) (words : List (List ℕ)) (i : ℕ) (word : List ℕ) → i < length ns → i < length words
-    → word ≡ to_be_bytes w32 (get_or ns i 0)
-    → flat_map (λ w. w) (take i words) ≡ numbers_text (take i ns)
-    → flat_map (λ w. w) (take (i + 1) (set words i word)) ≡ numbers_text (take (i + 1) ns)
-numbers_more ns words i word in_numbers in_words word_is before =
-    ap (flat_map (λ w. w)) (take_more_set words i word in_words)
-    ∙ flat_map-append (λ w. w) (take i words) (word ∷ [])
+pub numbers_more : (w : Width) (ns : List ℕ) (words : List (List ℕ)) (i : ℕ) (word : List ℕ) → i < length ns → i < length words
+    → word ≡ to_be_bytes w (get_or ns i 0)
+    → flat_map (λ t. t) (take i words) ≡ flat_map (to_be_bytes w) (take i ns)
+    → flat_map (λ t. t) (take (i + 1) (set words i word)) ≡ flat_map (to_be_bytes w) (take (i + 1) ns)
+numbers_more w ns words i word in_numbers in_words word_is before =
+    ap (flat_map (λ t. t)) (take_more_set words i word in_words)
+    ∙ flat_map-append (λ t. t) (take i words) (word ∷ [])
     ∙ ap (λ t. t ++ (word ++ [])) before
-    ∙ ap (λ t. numbers_text (take i ns) ++ (t ++ [])) word_is
-    ∙ sym (ap numbers_text (take_more ns i 0 in_numbers) ∙ flat_map-append (to_be_bytes w32) (take i ns) (get_or ns i 0 ∷ []))
+    ∙ ap (λ t. flat_map (to_be_bytes w) (take i ns) ++ (t ++ [])) word_is
+    ∙ sym (ap (flat_map (to_be_bytes w)) (take_more ns i 0 in_numbers) ∙ flat_map-append (to_be_bytes w) (take i ns) (get_or ns i 0 ∷ []))
 
 cons_same : (m n : ℕ) (ms ns : List ℕ) → m ≡ n → ms ≡ ns → m ∷ ms ≡ n ∷ ns
 cons_same m n ms ns head tail = ap (λ k. k ∷ ms) head ∙ ap (λ t. n ∷ t) tail
@@ -348,26 +348,32 @@ halves_text n =
     (cons_same _ _ _ _ (omega arith)
     (cons_same _ _ _ _ (omega arith) refl)))))))
 
-pub encoded_more : (ns : List ℕ) (i : ℕ)
-    → ((j : ℕ) → j < i → IsNumber w32 (get_or ns j 0) (to_be_bytes w32 (get_or ns j 0)))
-    → IsNumber w32 (get_or ns i 0) (to_be_bytes w32 (get_or ns i 0))
-    → (j : ℕ) → j < i + 1 → IsNumber w32 (get_or ns j 0) (to_be_bytes w32 (get_or ns j 0))
-encoded_more ns i before last j below = encoded_by (cases_lt j i)
+-- the bytes of two unsigned integers are those of the hyper integer of which they are the halves
+pub hyper_text : (n high low : ℕ) → n ≡ high * 4294967296 + low → low < 4294967296 → to_be_bytes w64 n ≡ numbers_text (high ∷ low ∷ [])
+hyper_text n high low n_is below =
+    sym (halves_text n)
+    ∙ ap numbers_text (cons_same _ _ _ _ (omega (arith, n_is, below)) (cons_same _ _ [] [] (omega (arith, n_is, below)) refl))
+
+pub encoded_more : (w : Width) (ns : List ℕ) (i : ℕ)
+    → ((j : ℕ) → j < i → IsNumber w (get_or ns j 0) (to_be_bytes w (get_or ns j 0)))
+    → IsNumber w (get_or ns i 0) (to_be_bytes w (get_or ns i 0))
+    → (j : ℕ) → j < i + 1 → IsNumber w (get_or ns j 0) (to_be_bytes w (get_or ns j 0))
+encoded_more w ns i before last j below = encoded_by (cases_lt j i)
   where
-    encoded_by : (j < i) ⊎ (i ≤ j) → IsNumber w32 (get_or ns j 0) (to_be_bytes w32 (get_or ns j 0))
+    encoded_by : (j < i) ⊎ (i ≤ j) → IsNumber w (get_or ns j 0) (to_be_bytes w (get_or ns j 0))
     encoded_by (inl less) = before j less
-    encoded_by (inr more) = subst (λ k. IsNumber w32 (get_or ns k 0) (to_be_bytes w32 (get_or ns k 0))) (omega (arith, below, more)) last
+    encoded_by (inr more) = subst (λ k. IsNumber w (get_or ns k 0) (to_be_bytes w (get_or ns k 0))) (omega (arith, below, more)) last
 
 -- numbers that are each encoded are items one after another
-pub are_numbers : (ns : List ℕ)
-    → ((j : ℕ) → j < length ns → IsNumber w32 (get_or ns j 0) (to_be_bytes w32 (get_or ns j 0)))
-    → AreItems (IsNumber w32) ns (numbers_text ns)
-are_numbers [] each = refl
-are_numbers (n ∷ ns) each = record {
-  front = to_be_bytes w32 n;
+pub are_numbers : (w : Width) (ns : List ℕ)
+    → ((j : ℕ) → j < length ns → IsNumber w (get_or ns j 0) (to_be_bytes w (get_or ns j 0)))
+    → AreItems (IsNumber w) ns (flat_map (to_be_bytes w) ns)
+are_numbers w [] each = refl
+are_numbers w (n ∷ ns) each = record {
+  front = to_be_bytes w n;
   first = each 0 (omega arith);
-  back = numbers_text ns;
-  second = are_numbers ns (λ j below. each (suc j) (omega (arith, below)));
+  back = flat_map (to_be_bytes w) ns;
+  second = are_numbers w ns (λ j below. each (suc j) (omega (arith, below)));
   text_is = refl;
 }
 
@@ -375,8 +381,8 @@ pub boolean_written : (b : Bool) → IsBoolean b (to_be_bytes w32 (number_of b))
 boolean_written true = record { fits = omega arith; text_is = refl }
 boolean_written false = record { fits = omega arith; text_is = refl }
 
-pub encoded_at : (ns text : List ℕ) → AreItems (IsNumber w32) ns text → (i : ℕ) → i < length ns
-    → IsNumber w32 (get_or ns i 0) (to_be_bytes w32 (get_or ns i 0))
-encoded_at [] text are i below = absurd (omega (arith, below))
-encoded_at (n ∷ ns) text are zero below = record { fits = are.first.fits; text_is = refl }
-encoded_at (n ∷ ns) text are (suc i) below = encoded_at ns are.back are.second i (omega (arith, below))
+pub encoded_at : (w : Width) (ns text : List ℕ) → AreItems (IsNumber w) ns text → (i : ℕ) → i < length ns
+    → IsNumber w (get_or ns i 0) (to_be_bytes w (get_or ns i 0))
+encoded_at w [] text are i below = absurd (omega (arith, below))
+encoded_at w (n ∷ ns) text are zero below = record { fits = are.first.fits; text_is = refl }
+encoded_at w (n ∷ ns) text are (suc i) below = encoded_at w ns are.back are.second i (omega (arith, below))

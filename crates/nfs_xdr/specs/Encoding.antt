@@ -1,7 +1,7 @@
 -- Which bytes encode which value of an XDR item (RFC 4506).
 use Rattle.std.specs.Prelude.{◌≡◌, ℕ, ◌-◌, ◌%◌, ◌^◌, ◌<◌, ◌≤◌, Bool, true, false, List, [], ◌∷◌, ◌++◌, Option, Some, None, length, take, if◌then◌else◌}
 use Rattle.std.specs.List.{flat_map}
-use Rattle.std.specs.Int.{Width, w32, byte_len, to_be_bytes}
+use Rattle.std.specs.Int.{Width, w32, w64, byte_len, to_be_bytes}
 
 -- an unsigned integer (section 4.2, w32) or unsigned hyper integer (section 4.5, w64), the most significant byte first
 pub record IsNumber (w : Width) (n : ℕ) (text : List ℕ) : Type 0 where
@@ -76,6 +76,10 @@ opaque_text item = to_be_bytes w32 (length item) ++ fixed_text item
 -- unsigned integers, one after another
 abbrev pub numbers_text : List ℕ → List ℕ
 numbers_text ns = flat_map (to_be_bytes w32) ns
+
+-- unsigned hyper integers, one after another
+abbrev pub hypers_text : List ℕ → List ℕ
+hypers_text ns = flat_map (to_be_bytes w64) ns
 
 -- a value after the boolean that says that it is there, or the boolean that says that none is
 abbrev pub optional_text : {A : Type 0} → (A → List ℕ) → Option A → List ℕ

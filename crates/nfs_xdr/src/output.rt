@@ -1,7 +1,7 @@
 //! A list of bytes to which XDR items are written, in room that was made once.
 ghost use Rattle.std.specs.Prelude.{◌≡◌, ◌+◌, ◌*◌, ◌^◌, ◌<◌, ◌≤◌, [], ◌∷◌, ◌++◌, length, take, drop, IfOk};
 ghost use Rattle.std.specs.Int.{w32, w64, to_be_bytes};
-ghost use Rattle.nfs_xdr.specs.Encoding.{IsNumber, IsBoolean, AreItems, number_of, fixed_text, opaque_text, numbers_text, padding, pad_text};
+ghost use Rattle.nfs_xdr.specs.Encoding.{IsNumber, IsBoolean, AreItems, number_of, fixed_text, opaque_text, numbers_text, hypers_text, padding, pad_text};
 ghost use Rattle.nfs_xdr.specs.Written.{Written, Appends};
 
 use std::alloc::{AllocError, Global};
@@ -99,6 +99,21 @@ impl Output {
         self.part(words.as_flattened());
     }
 
+    /// Writes unsigned hyper integers one after another, as a fixed-length array of them (RFC 4506,
+    /// section 4.12), in one chunk: eight bytes are written as fast as four.
+    #[inline(always)]
+    pub fn hypers<const N: usize>(&mut self, ns: [u64; N])
+        requires { 8 * N ≤ self.old.room }
+        ensures text { Appends (hypers_text ns.entry) self.old self.new }
+        ensures encoded { AreItems (IsNumber w64) ns.entry (hypers_text ns.entry) }
+    {
+        let mut words = [[0u8; 8]; N];
+        for i in 0..N {
+            words[i] = bytes_of_hyper(ns[i]);
+        }
+        self.part(words.as_flattened());
+    }
+
     /// Writes opaque data of a fixed length (RFC 4506, section 4.9), padded with zeros.
     #[inline(always)]
     pub fn fixed(&mut self, item: &[u8])
@@ -186,6 +201,17 @@ pub fn halves(n: u64) -> (u32, u32)
     ((n >> 32) as u32, (n % (1 << 32)) as u32)
 }
 
+/// The unsigned hyper integer that is encoded as these unsigned integers are, one after the other (RFC
+/// 4506, section 4.5), for `hypers` to write them among others.
+#[inline(always)]
+pub fn hyper_of(high: u32, low: u32) -> u64
+    ensures text { to_be_bytes w64 result ≡ numbers_text (high ∷ low ∷ []) }
+    ensures high { IsNumber w32 high (to_be_bytes w32 high) }
+    ensures low { IsNumber w32 low (to_be_bytes w32 low) }
+{
+    u64::from(high) * (1 << 32) + u64::from(low)
+}
+
 // Puts bytes over as many others.
 #[inline(always)]
 fn put_over(place: &mut [u8], at: usize, bytes: &[u8])
@@ -223,6 +249,14 @@ fn padding_of(len: usize) -> usize
 fn bytes_of(n: u32) -> [u8; 4]
     ensures text { result ≡ to_be_bytes w32 n }
     ensures encoded { IsNumber w32 n (to_be_bytes w32 n) }
+{
+    n.to_be_bytes()
+}
+
+#[inline(always)]
+fn bytes_of_hyper(n: u64) -> [u8; 8]
+    ensures text { result ≡ to_be_bytes w64 n }
+    ensures encoded { IsNumber w64 n (to_be_bytes w64 n) }
 {
     n.to_be_bytes()
 }
