@@ -7,7 +7,7 @@ ghost use Rattle.nfs_loop.specs.Refusing.{hold_for};
 ghost use Rattle.nfs_loop.specs.Reports.{Accounts};
 ghost use Rattle.nfs_loop.specs.Ending.{EndsAfter, EndsIfSaved, all_ended, is_at_end, until_told};
 ghost use Rattle.nfs_loop.specs.Stages.{looked_after};
-ghost use Rattle.nfs_loop.specs.Timeouts.{IsWithin};
+ghost use Rattle.nfs_loop.specs.Timeouts.{IsWithin, looks_at_the_clock};
 ghost use Rattle.nfs_loop.specs.Watching.{heard_at, held_count};
 ghost use Rattle.nfs_serving.specs.Turns.{IsAtRest};
 
@@ -149,6 +149,8 @@ impl Housekeeping {
         ensures idle { is_some self.now.limits.idle ≡ true → 0 < clients → IsWithin 1000 result }
         ensures closed { self.now.is_closed ≡ true → IsWithin 1000 result }
         ensures watched { self.now.limits.is_watched ≡ true → IsWithin 1000 result }
+        ensures none { self.now.waiting ≡ Waiting.None → has_lines ≡ false → nat_lt 0 (held_count self.now.watches) ≡ false
+            → looks_at_the_clock self.now.limits self.now.is_touched self.now.is_closed clients ≡ false → result ≡ None }
     {
         if self.waiting == Waiting::Some {
             Some(Duration::ZERO)
@@ -165,8 +167,7 @@ impl Housekeeping {
 
     // Whether there is something to do once a second.
     fn looks_at_the_clock(&self, clients: usize) -> bool
-        ensures { result ≡ (is_some self.now.limits.idle && nat_lt 0 clients || is_some self.now.limits.save_every && self.now.is_touched
-            || self.now.is_closed || self.now.limits.is_watched) }
+        ensures { result ≡ looks_at_the_clock self.now.limits self.now.is_touched self.now.is_closed clients }
     {
         let may_be_silent = self.limits.idle.is_some() && clients > 0;
         let may_be_saved = self.limits.save_every.is_some() && self.is_touched;
@@ -179,6 +180,9 @@ impl Housekeeping {
         ensures looked { self.new.looked ≡ self.old.looked }
         ensures limits { self.new.limits ≡ self.old.limits }
         ensures refused { self.new.refused_peers ≡ self.old.refused_peers }
+        ensures ended { self.new.ended ≡ self.old.ended }
+        ensures touched { self.new.is_touched ≡ self.old.is_touched }
+        ensures waiting { self.old.waiting ≡ Waiting.Refused → self.new.waiting ≡ Waiting.Some }
     {
         if self.waiting == Waiting::Refused {
             self.waiting = Waiting::Some;
@@ -193,6 +197,8 @@ impl Housekeeping {
         ensures looked { self.new.looked ≡ looked_after self.old.limits.idle seconds self.old.looked }
         ensures limits { self.new.limits ≡ self.old.limits }
         ensures watches { self.new.watches ≡ self.old.watches }
+        ensures ended { self.new.ended ≡ self.old.ended }
+        ensures touched { self.new.is_touched ≡ self.old.is_touched }
     {
         let idle = self.limits.idle?;
         if seconds == self.looked {
@@ -209,6 +215,8 @@ impl Housekeeping {
             (record { heard = millis / 1000; hold = hold_for addr millis self.old.refused_peers; is_closing = false }) }
         ensures looked { self.new.looked ≡ self.old.looked }
         ensures limits { self.new.limits ≡ self.old.limits }
+        ensures ended { self.new.ended ≡ self.old.ended }
+        ensures touched { self.new.is_touched ≡ self.old.is_touched }
     {
         let hold = self.refused_peers.hold(addr, millis);
         self.watches.begin(key, millis / 1_000, hold);
@@ -267,6 +275,8 @@ impl Housekeeping {
         ensures watches { self.new.watches ≡ self.old.watches }
         ensures looked { self.new.looked ≡ self.old.looked }
         ensures limits { self.new.limits ≡ self.old.limits }
+        ensures ended { self.new.ended ≡ self.old.ended }
+        ensures touched { self.new.is_touched ≡ self.old.is_touched }
     {
         if self.call_rate.is_behind(seconds) {
             self.call_rate.note(seconds, server.counts().total());
@@ -331,6 +341,7 @@ impl Housekeeping {
     fn is_busy<L: Link + Drop>(&self, member: &Member<L>, key: usize, seconds: u64) -> bool
         ensures rest { result ≡ false → IsAtRest member.now.client.value }
         ensures quiet { result ≡ false → heard_at self.now.watches key + QUIET_SECONDS ≤ seconds }
+        ensures busy { result ≡ true → IsAtRest member.now.client.value → seconds < heard_at self.now.watches key + QUIET_SECONDS }
     {
         !member.client.is_at_rest()
             || seconds.saturating_sub(self.watches.heard(key)) < QUIET_SECONDS
@@ -354,6 +365,8 @@ impl Housekeeping {
         ensures watches { self.new.watches ≡ self.old.watches }
         ensures looked { self.new.looked ≡ self.old.looked }
         ensures limits { self.new.limits ≡ self.old.limits }
+        ensures ended { self.new.ended ≡ self.old.ended }
+        ensures touched { self.new.is_touched ≡ self.old.is_touched }
     {
         self.note_told(net, is_told, standing.seconds);
         if self.is_at_end(standing) {
@@ -370,6 +383,8 @@ impl Housekeeping {
         ensures watches { self.new.watches ≡ self.old.watches }
         ensures looked { self.new.looked ≡ self.old.looked }
         ensures limits { self.new.limits ≡ self.old.limits }
+        ensures ended { self.new.ended ≡ self.old.ended }
+        ensures touched { self.new.is_touched ≡ self.old.is_touched }
     {
         if is_told && self.until.is_none() {
             net.close_listener();
@@ -394,6 +409,8 @@ impl Housekeeping {
         ensures watches { self.new.watches ≡ self.old.watches }
         ensures looked { self.new.looked ≡ self.old.looked }
         ensures limits { self.new.limits ≡ self.old.limits }
+        ensures ended { self.new.ended ≡ self.old.ended }
+        ensures touched { self.new.is_touched ≡ self.old.is_touched }
     {
         if attendant.finish(server) {
             self.is_over = true;
@@ -411,6 +428,8 @@ impl Housekeeping {
         ensures watches { self.new.watches ≡ self.old.watches }
         ensures looked { self.new.looked ≡ self.old.looked }
         ensures limits { self.new.limits ≡ self.old.limits }
+        ensures ended { self.new.ended ≡ self.old.ended }
+        ensures touched { self.new.is_touched ≡ self.old.is_touched }
     {
         if !self.is_closed || self.until.is_some() || self.tried == Some(seconds) {
             return;
