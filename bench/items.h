@@ -1,4 +1,5 @@
 /* What the baselines share: the clock, and items of XDR, read with their bounds tested. */
+#pragma once
 #include <stdint.h>
 #include <stddef.h>
 #include <time.h>

@@ -1,4 +1,5 @@
-/* How long a page of a directory takes to write: the least of five runs. `items.h` comes before. */
+/* How long a page of a directory takes to write: the least of five runs. */
+#include "items.h"
 #include <stdio.h>
 
 /* Writes a page of so many bytes, with files' attributes and handles or without, and returns how many bytes it has. */
